@@ -1,0 +1,99 @@
+-- What the code's shifts and masks are in plain arithmetic, and what a put digit changes. Assumes nothing.
+use mathlib.Core.Path.{_≡_, refl, sym, ap, ap₂, _∙_, subst}
+use Prim.Native.Nat.{ℕ, suc, _+_, _-_, _*_, _/_, _%_, _^_, _<_, _≤_}
+use native.Mathlib.Nat.{mod-lt, add-zero, one-mul, mod-eq-of-lt, mul-assoc, add-mul-div-right, mul-add-mod-self-right, mul-comm, add-comm, mod-mod, mul-sub, max-eq-right, le-of-suc-le-suc}
+use native.Mathlib.Omega.{arith}
+use lib.Pow.{field, mod-mod-pow, pow-pos, pow-add, pow-mono, ones-lt, split, high, low, shl-exact, shr-lt, shr-shr}
+use native.Mathlib.Decide.{decLt}
+use lib.Bits.{bitAnd, bitOr, and-mask, or-block, and-block, or-step, or-zero-r, and-high}
+use lib.Dec.{lit<, lit≤}
+use Rattle.bits.specs.Bits.{digit, put-digit}
+
+-- 1 << k at a u32
+pub one-shl : (k : ℕ) → k < 32 → 1 * 2 ^ k % 4294967296 ≡ 2 ^ k
+one-shl k h = shl-exact 1 k 32 (lit< tt) (omega arith) ∙ one-mul (2 ^ k)
+
+or-one : (x : ℕ) → bitOr x 1 ≡ x / 2 * 2 + 1
+or-one x =
+    or-step x 1
+    ∙ ap₂ (λ (a b : ℕ). a * 2 + b) (or-zero-r (x / 2)) (max-eq-right (le-of-suc-le-suc (mod-lt x (lit< tt))))
+
+pub or-put : (w k : ℕ) → k < 32 → bitOr w (1 * 2 ^ k % 4294967296) ≡ put-digit w k 1
+unfolding put-digit
+or-put w k h =
+    ap₂ bitOr (sym (split w k)) (one-shl k h ∙ sym (one-mul (2 ^ k)) ∙ sym (add-zero (1 * 2 ^ k)))
+    ∙ or-block k (w / 2 ^ k) 1 (w % 2 ^ k) 0 (mod-lt w (pow-pos k)) (pow-pos k)
+    ∙ ap₂ (λ (x y : ℕ). x * 2 ^ k + y) (or-one (w / 2 ^ k)) (or-zero-r (w % 2 ^ k))
+
+mask : (k : ℕ) → k < 32 → 4294967295 - 2 ^ k ≡ (2 ^ ((31 - k) + 1) - 2 ^ 1) * 2 ^ k + (2 ^ k - 1)
+mask k h =
+    let P = 2 ^ k in
+    let s : ((31 - k) + 1) + k ≡ 32 = omega arith in
+    let Q = 2 ^ ((31 - k) + 1) in
+    let e : Q * P ≡ 4294967296 = sym (pow-add 2 ((31 - k) + 1) k) ∙ ap (λ (n : ℕ). 2 ^ n) s in
+    let l : P ≤ 2147483648 = pow-mono {i = k} {j = 31} (omega arith) in
+    let d : (Q - 2) * P ≡ P * Q - P * 2 = mul-comm (Q - 2) P ∙ mul-sub P Q 2 in
+    omega (arith, mul-comm Q P, pow-pos k)
+
+above : (w k : ℕ) → w < 2 ^ 32 → k < 32 → w / 2 ^ k / 2 < 2 ^ (31 - k)
+above w k hw h =
+    let s : 32 ≡ (31 - k) + (k + 1) = omega arith in
+    rw (shr-shr w k 1)
+    (shr-lt (31 - k) (k + 1) (subst (λ (n : ℕ). w < 2 ^ n) s hw))
+
+pub and-put : (w k : ℕ) → w < 2 ^ 32 → k < 32 → bitAnd w (4294967295 - 1 * 2 ^ k % 4294967296) ≡ put-digit w k 0
+unfolding put-digit
+and-put w k hw h =
+    ap₂ bitAnd (sym (split w k)) (ap (λ (x : ℕ). 4294967295 - x) (one-shl k h) ∙ mask k h)
+    ∙ and-block k (w / 2 ^ k) (2 ^ ((31 - k) + 1) - 2 ^ 1) (w % 2 ^ k) (2 ^ k - 1) (mod-lt w (pow-pos k)) (ones-lt k)
+    ∙ ap₂ (λ (x y : ℕ). x * 2 ^ k + y) (and-high (w / 2 ^ k) (31 - k) 1 ∙ ap (λ (x : ℕ). x * 2) (mod-eq-of-lt (above w k hw h)) ∙ sym (add-zero (w / 2 ^ k / 2 * 2))) (and-mask (w % 2 ^ k) k ∙ mod-mod w (2 ^ k))
+
+-- ---- a put digit is there, and every other digit is as it was
+
+put-high : (w k b : ℕ) → put-digit w k b / 2 ^ k ≡ w / 2 ^ k / 2 * 2 + b
+unfolding put-digit
+put-high w k b = high (w / 2 ^ k / 2 * 2 + b) k (mod-lt w (pow-pos k))
+
+put-low : (w k b : ℕ) → put-digit w k b % 2 ^ k ≡ w % 2 ^ k
+unfolding put-digit
+put-low w k b = low (w / 2 ^ k / 2 * 2 + b) k (mod-lt w (pow-pos k))
+
+pub digit-same : (w k b : ℕ) → b < 2 → digit (put-digit w k b) k ≡ b
+unfolding digit
+digit-same w k b h = rw put-high (omega arith)
+
+-- a digit above k is one of what stands above k, a digit below k one of what stands below
+digit-above : (w k i : ℕ) → digit w (k + suc i) ≡ digit (w / 2 ^ k / 2) i
+unfolding digit
+digit-above w k i =
+    ap (λ (x : ℕ). x % 2)
+    (ap (λ (n : ℕ). w / 2 ^ n) (omega arith) ∙ sym (shr-shr w (k + 1) i) ∙ ap (λ (x : ℕ). x / 2 ^ i) (sym (shr-shr w k 1)))
+
+digit-below : (w j i : ℕ) → digit w j ≡ digit (w % 2 ^ ((i + 1) + j)) j
+unfolding digit
+digit-below w j i = sym (ap (λ (x : ℕ). x % 2) (field w (i + 1) j) ∙ mod-mod-pow (w / 2 ^ j) i 1)
+
+other-above : (w k b i : ℕ) → b < 2 → digit (put-digit w k b) (k + suc i) ≡ digit w (k + suc i)
+other-above w k b i hb =
+    digit-above (put-digit w k b) k i ∙ ap (λ (x : ℕ). digit (x / 2) i) (put-high w k b)
+    ∙ ap (λ (x : ℕ). digit x i) h ∙ sym (digit-above w k i)
+  where
+    h : (w / 2 ^ k / 2 * 2 + b) / 2 ≡ w / 2 ^ k / 2
+    h = omega arith
+
+other-below : (w j b i : ℕ) → digit (put-digit w ((i + 1) + j) b) j ≡ digit w j
+other-below w j b i =
+    digit-below (put-digit w ((i + 1) + j) b) j i
+    ∙ ap (λ (x : ℕ). digit x j) (put-low w ((i + 1) + j) b)
+    ∙ sym (digit-below w j i)
+
+pub digit-other : (w k b j : ℕ) → b < 2 → (j ≡ k → ⊥) → digit (put-digit w k b) j ≡ digit w j
+digit-other w k b j hb ne =
+    elim (decLt j k) [
+      | yes h ↦
+          let s : ((k - j - 1) + 1) + j ≡ k = omega arith in
+          subst (λ (n : ℕ). digit (put-digit w n b) j ≡ digit w j) s (other-below w j b (k - j - 1))
+      | no h ↦
+          let s : k + suc (j - k - 1) ≡ j = omega arith in
+          subst (λ (n : ℕ). digit (put-digit w k b) n ≡ digit w n) s (other-above w k b (j - k - 1) hb)
+    ]

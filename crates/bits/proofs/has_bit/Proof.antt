@@ -1,0 +1,22 @@
+use borrow.Author.Needs.{needs}
+use Prim.Native.Nat.{ℕ, _/_, _^_}
+use mathlib.Core.Path.{ap}
+use lib.Dec.{eqb}
+use lib.Bits.{and-mask}
+use Rattle.bits.specs.Bits.{digit}
+use Rattle.bits.proofs.has_bit.Statement.{statement}
+use Rattle.bits.proofs.has_bit.Tie as tie
+use Rattle.bits.proofs.has_bit.Reads as reads
+use Rattle.bits.proofs.has_bit.Lts as lts
+
+-- src/lib.rt:11:6
+shr-result : tie.Need-shr-result
+shr-result c = search needs
+
+-- src/lib.rt:7:1
+returns : tie.Need-returns
+unfolding digit
+returns c = ap (λ (x : ℕ). eqb x 1) (and-mask (c .args .w / 2 ^ c .args .k) 1)
+
+pub has-bit-spec : {M : Type 1} → statement M
+has-bit-spec = tie.close (tie.spec shr-result returns)

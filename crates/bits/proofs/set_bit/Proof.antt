@@ -1,0 +1,17 @@
+use borrow.Author.Needs.{needs}
+use Rattle.bits.proofs.Laws.{or-put}
+use Rattle.bits.proofs.set_bit.Statement.{statement}
+use Rattle.bits.proofs.set_bit.Tie as tie
+use Rattle.bits.proofs.set_bit.Reads as reads
+use Rattle.bits.proofs.set_bit.Lts as lts
+
+-- src/lib.rt:19:9
+shl-result : tie.Need-shl-result
+shl-result c = search needs
+
+-- src/lib.rt:15:1
+returns : tie.Need-returns
+returns c = or-put (c .args .w) (c .args .k) (c .pre)
+
+pub set-bit-spec : {M : Type 1} → statement M
+set-bit-spec = tie.close (tie.spec shl-result returns)
