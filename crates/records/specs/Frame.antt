@@ -1,0 +1,52 @@
+-- The frame of an image: rule I1 as a test, and what it is worth. Definitions only.
+use Prim.Native.Nat.{ℕ, _+_, _*_, _≤_}
+use mathlib.Core.Bool.{Bool, true, _&&_}
+use mathlib.Core.List.{List}
+use mathlib.Core.Path.{_≡_}
+use lib.ListN.{length}
+use lib.Dec.{eqb, leb}
+use Rattle.records.specs.Sizes.{header-size, image-version, most-certificates, most-cards, most-executables, most-actions, certificates-start, cards-start, executables-start, table-start, image-end}
+use Rattle.records.specs.Phone.{Phone, version, certificate-slots, card-count, executable-slots, action-count, standing-mode, header-zero, certificates-at, cards-at, executables-at, table-at, total-length, cards-from, executables-from, table-from, ends-at, decode, encode}
+
+-- I1, the first sentence's fields in their order; "Parts follow each other with no gap in that order, certificates at 40. The total is the table's end and the buffer's length."
+unfoldable pub header-fits : List ℕ → Bool
+header-fits l =
+    eqb (version l) image-version
+    && leb (certificate-slots l) most-certificates
+    && leb (card-count l) most-cards
+    && leb (executable-slots l) most-executables
+    && leb 1 (action-count l)
+    && leb (action-count l) most-actions
+    && leb (standing-mode l) 2
+    && eqb (header-zero l) 0
+    && eqb (certificates-at l) certificates-start
+    && eqb (cards-at l) (cards-from l)
+    && eqb (executables-at l) (executables-from l)
+    && eqb (table-at l) (table-from l)
+    && eqb (total-length l) (ends-at l)
+    && eqb (length l) (ends-at l)
+
+-- I1: "A shorter buffer breaks I1"
+unfoldable pub framed : List ℕ → Bool
+framed l = leb header-size (length l) && header-fits l
+
+-- a phone that an image has room for
+pub record Sized (p : Phone) : Type 0 where
+  pub certificates : length (p .trust .certificates) ≤ most-certificates
+  pub cards : length (p .cards) ≤ most-cards
+  pub executables : length (p .executables) ≤ most-executables
+  pub some-action : 1 ≤ length (p .table)
+  pub actions : length (p .table) ≤ most-actions
+
+-- what a framed image is known to be: the image of the phone that it says, with its header's numbers those of that phone
+pub record Framed (l : List ℕ) : Type 0 where
+  pub shaped : l ≡ encode (decode l)
+  pub sized : Sized (decode l)
+  pub room : length l ≡ image-end (length (decode l .trust .certificates)) (length (decode l .cards)) (length (decode l .executables)) (length (decode l .table))
+  pub certificates : certificate-slots l ≡ length (decode l .trust .certificates)
+  pub cards : card-count l ≡ length (decode l .cards)
+  pub executables : executable-slots l ≡ length (decode l .executables)
+  pub actions : action-count l ≡ length (decode l .table)
+  pub cards-from : cards-at l ≡ cards-start (length (decode l .trust .certificates))
+  pub executables-from : executables-at l ≡ executables-start (length (decode l .trust .certificates)) (length (decode l .cards))
+  pub table-from : table-at l ≡ table-start (length (decode l .trust .certificates)) (length (decode l .cards)) (length (decode l .executables))

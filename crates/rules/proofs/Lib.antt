@@ -1,0 +1,12 @@
+pub mod Tests
+pub mod Lists
+pub mod Distinct
+pub mod Slots
+pub mod Accepted
+pub mod Fits
+pub mod Accepts
+pub mod Rows
+pub mod Roots
+pub mod Changes
+pub mod Least
+pub mod Loops

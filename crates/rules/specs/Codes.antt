@@ -1,0 +1,169 @@
+-- 01, "What an event is told": a test for each code, and their order. Definitions only.
+use Prim.Native.Nat.{ℕ}
+use mathlib.Core.Bool.{Bool, true, false, cond, not, _&&_, _||_}
+use mathlib.Core.List.{List, [], _∷_}
+use lib.Dec.{eqb, leb, ltb}
+use lib.ListN.{length}
+use Rattle.bits.specs.Bits.{has-bit}
+use Rattle.records.specs.Sizes.{event-size}
+use Rattle.records.specs.Layout.{row-byte, event-read}
+use Rattle.records.specs.Phone.{Seen, Trust, Phone, decode, no-certificate, no-executable, row-at}
+use Rattle.records.specs.declared.Certificate.{Certificate}
+use Rattle.records.specs.declared.Executable.{Executable}
+use Rattle.records.specs.declared.Event.{Event}
+use Rattle.rules.specs.Words.{between, any, find, Check, _⇒_, first}
+use Rattle.rules.specs.Chains.{present, valid-root}
+use Rattle.rules.specs.ImageRules.{accepted, free-certificate, free-executable, in-card-table, known-place, operator-of, operator-root, third-party-root}
+use Rattle.rules.specs.Actors.{may-act, acts-for}
+use Rattle.rules.specs.Forms.{new-certificate, listed, malformed}
+
+-- ---- the records that an event names
+
+abbrev pub has-id : ℕ → Certificate → Bool
+has-id n c = eqb (c .id) n
+
+abbrev pub is-executable : ℕ → Executable → Bool
+is-executable n x = eqb (x .id) n
+
+unfoldable pub certificate-named : Phone → ℕ → Certificate
+certificate-named p n = find (has-id n) no-certificate (p .trust .certificates)
+
+unfoldable pub executable-named : Phone → ℕ → Executable
+executable-named p n = find (is-executable n) no-executable (p .executables)
+
+unfoldable pub certificate-known : Phone → ℕ → Bool
+certificate-known p n = any (has-id n) (p .trust .certificates)
+
+unfoldable pub executable-known : Phone → ℕ → Bool
+executable-known p n = any (is-executable n) (p .executables)
+
+-- the certificate that kinds 5–8 are about: the one to install, or the one named
+unfoldable pub subject : Phone → Event → Certificate
+subject p e =
+    cond (eqb (e .kind) 5) (new-certificate (p .mode) e) (cond (between 6 8 (e .kind)) (certificate-named p (e .id)) no-certificate)
+
+-- ---- a test for each code; where a record is missing, code 3 stands before
+
+-- 3: "kinds 6–8, 11–15: id unknown; kind 9: a listed id unknown"
+unfoldable pub id-unknown : Phone → Event → Bool
+id-unknown p e =
+    (between 6 8 (e .kind) && not (certificate-known p (e .id)))
+    || (between 11 15 (e .kind) && not (executable-known p (e .id)))
+    || (eqb (e .kind) 9 && any (λ n. not (certificate-known p n)) (listed e))
+
+-- 4: "actor not allowed"
+unfoldable pub actor-barred : Phone → Event → Bool
+actor-barred p e = not (may-act (e .kind) (subject p e .domain) (e .actor) && acts-for e (subject p e))
+
+-- 5: "new time below the clock (equal is done)"
+unfoldable pub time-back : Phone → Event → Bool
+time-back p e = eqb (e .kind) 1 && ltb (e .key) (p .trust .seen .clock)
+
+-- 6: "a card or install place that is not 0 and is not in the card table"
+unfoldable pub card-unknown : Phone → Event → Bool
+card-unknown p e =
+    (eqb (e .kind) 2 || eqb (e .kind) 4 || eqb (e .kind) 5) && not (known-place (p .cards) (e .second))
+
+-- 7: "card in with one present; card out with none"
+unfoldable pub card-wrong : Phone → Event → Bool
+card-wrong p e =
+    (eqb (e .kind) 2 && not (eqb (p .trust .seen .card) 0)) || (eqb (e .kind) 3 && eqb (p .trust .seen .card) 0)
+
+-- 8: "install, delete or mark on a card not present"
+unfoldable pub card-away : Phone → Event → Bool
+card-away p e = between 5 8 (e .kind) && not (present (p .trust .seen) (subject p e))
+
+-- 9: "install: id taken in the same table"
+unfoldable pub id-taken : Phone → Event → Bool
+id-taken p e =
+    (eqb (e .kind) 5 && certificate-known p (e .id)) || (eqb (e .kind) 10 && executable-known p (e .id))
+
+-- 10: "install certificate: a certificate of another domain has this key"
+unfoldable pub key-elsewhere : Phone → Event → Bool
+key-elsewhere p e =
+    eqb (e .kind) 5 && any (λ c. eqb (c .key) (e .key) && not (eqb (c .domain) (e .fourth))) (p .trust .certificates)
+
+-- 11: "install of an operator root on a card of another operator"
+unfoldable pub install-of-other : Phone → Event → Bool
+install-of-other p e =
+    eqb (e .kind) 5
+    && operator-root (subject p e)
+    && not (eqb (e .second) 0)
+    && not (eqb (e .owner) (operator-of (p .cards) (e .second)))
+
+-- 11: "mark valid of one on the phone while a card of another operator is present"
+unfoldable pub mark-of-other : Phone → Event → Bool
+mark-of-other p e =
+    eqb (e .kind) 7
+    && operator-root (subject p e)
+    && eqb (subject p e .place) 0
+    && not (eqb (p .trust .seen .card) 0)
+    && not (eqb (subject p e .owner) (operator-of (p .cards) (p .trust .seen .card)))
+
+-- 12: "marking an issued record; message lists one that is no third party root"
+unfoldable pub no-such-root : Phone → Event → Bool
+no-such-root p e =
+    (between 7 8 (e .kind) && eqb (subject p e .kind) 1)
+    || (eqb (e .kind) 9 && any (λ n. not (third-party-root (certificate-named p n))) (listed e))
+
+-- 13: "while another is valid: manufacturer, any other; operator root on the phone, any other present; on a card, another on that card"
+unfoldable pub rival : Seen → Certificate → Certificate → Bool
+rival s c x =
+    not (eqb (x .id) (c .id))
+    && valid-root (s .clock) x
+    && eqb (x .domain) (c .domain)
+    && (eqb (c .domain) 2 || (eqb (c .domain) 1 && cond (eqb (c .place) 0) (present s x) (eqb (x .place) (c .place))))
+
+-- 13: "mark valid"
+unfoldable pub another-valid : Phone → Event → Bool
+another-valid p e = eqb (e .kind) 7 && any (rival (p .trust .seen) (subject p e)) (p .trust .certificates)
+
+-- 14: "install: no free slot"
+unfoldable pub no-free-slot : Phone → Event → Bool
+no-free-slot p e =
+    (eqb (e .kind) 5 && not (any free-certificate (p .trust .certificates)))
+    || (eqb (e .kind) 10 && not (any free-executable (p .executables)))
+
+-- "A request uses the executable's domain": the table byte for it
+unfoldable pub table-byte : Phone → Event → ℕ
+table-byte p e = row-byte (row-at p (e .second)) (executable-named p (e .id) .domain)
+
+-- 15: "request: table byte 0"
+unfoldable pub never : Phone → Event → Bool
+never p e = eqb (e .kind) 15 && eqb (table-byte p e) 0
+
+-- 16: "request: table byte 1 and no permission"
+unfoldable pub not-permitted : Phone → Event → Bool
+not-permitted p e =
+    eqb (e .kind) 15 && eqb (table-byte p e) 1 && not (has-bit (executable-named p (e .id) .permissions) (e .second))
+
+-- ---- "The lowest that applies is given."
+
+-- for an event of the right length on an accepted image
+abbrev pub refusals : Phone → Event → List Check
+refusals p e =
+    (malformed p e ⇒ 2)
+    ∷ (id-unknown p e ⇒ 3)
+    ∷ (actor-barred p e ⇒ 4)
+    ∷ (time-back p e ⇒ 5)
+    ∷ (card-unknown p e ⇒ 6)
+    ∷ (card-wrong p e ⇒ 7)
+    ∷ (card-away p e ⇒ 8)
+    ∷ (id-taken p e ⇒ 9)
+    ∷ (key-elsewhere p e ⇒ 10)
+    ∷ (install-of-other p e ⇒ 11)
+    ∷ (mark-of-other p e ⇒ 11)
+    ∷ (no-such-root p e ⇒ 12)
+    ∷ (another-valid p e ⇒ 13)
+    ∷ (no-free-slot p e ⇒ 14)
+    ∷ (never p e ⇒ 15)
+    ∷ (not-permitted p e ⇒ 16)
+    ∷ []
+
+unfoldable pub code-of : Phone → Event → ℕ
+code-of p e = first (refusals p e)
+
+-- for any bytes of an image and of an event: 1 "image breaks a rule I1–I8", 2 "event not 24 bytes"
+unfoldable pub code : List ℕ → List ℕ → ℕ
+code l v =
+    first ((not (accepted l) ⇒ 1) ∷ (not (eqb (length v) event-size) ⇒ 2) ∷ refusals (decode l) (event-read v 0))

@@ -1,0 +1,11 @@
+pub mod Words
+pub mod Chains
+pub mod ImageRules
+pub mod Actors
+pub mod Forms
+pub mod Codes
+pub mod Effects
+pub mod Step
+pub mod Demands
+pub mod Computing
+pub mod WorkedRun

@@ -1,0 +1,46 @@
+-- One event on an image, and a run of them: bytes in, answers and bytes out, for every input. Definitions only.
+use Prim.Native.Nat.{ℕ}
+use mathlib.Core.Bool.{Bool, cond, _||_}
+use mathlib.Core.List.{List, [], _∷_}
+use lib.Dec.{eqb}
+use Rattle.records.specs.Layout.{event-read}
+use Rattle.records.specs.Phone.{Phone, decode, encode}
+use Rattle.records.specs.declared.Event.{Event}
+use Rattle.rules.specs.declared.Answer.{Answer}
+use Rattle.rules.specs.Chains.{links}
+use Rattle.rules.specs.Codes.{executable-named, code}
+use Rattle.rules.specs.Effects.{changed}
+
+-- "Every code other than 0 gives domain 0 and links 0"
+abbrev pub refused : ℕ → Answer
+refused c = record { code = c; domain = 0; links = 0 }
+
+-- "Domain and links are non-zero only for code 0 of verify and request: the executable's domain, and its link count if that domain is not 0": p is the phone after the event
+unfoldable pub done : Event → Phone → Answer
+done e p =
+    let x = executable-named p (e .id) in
+    let told : Answer = record { code = 0; domain = x .domain; links = links (p .trust) (x .signing) (x .domain) } in
+    cond (eqb (e .kind) 12 || eqb (e .kind) 15) told (refused 0)
+
+-- what an event makes of an image
+pub record Outcome : Type 0 where
+  pub answer : Answer
+  pub image : List ℕ
+
+-- "Every code other than 0 leaves the image unchanged."
+unfoldable pub step : List ℕ → List ℕ → Outcome
+step l v =
+    let c = code l v in
+    let e = event-read v 0 in
+    let p = changed e (decode l) in
+    let after : Outcome = record { answer = done e p; image = encode p } in
+    cond (eqb c 0) after (record { answer = refused c; image = l })
+
+-- the image after a run of events, and the answers
+unfoldable pub run : List ℕ → List (List ℕ) → List ℕ
+run l [] = l
+run l (v ∷ vs) = run (step l v .image) vs
+
+unfoldable pub answers : List ℕ → List (List ℕ) → List Answer
+answers l [] = []
+answers l (v ∷ vs) = let o = step l v in o .answer ∷ answers (o .image) vs

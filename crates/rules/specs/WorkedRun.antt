@@ -1,0 +1,144 @@
+-- 01, "One run of bench, whole", computed from its bytes, and the ten boundaries that 01 marks P. Assumes nothing.
+use Prim.Native.Nat.{ℕ}
+use mathlib.Core.Bool.{Bool, true}
+use mathlib.Core.List.{List, [], _∷_, _++_, map}
+use mathlib.Core.Path.{_≡_, refl}
+use lib.ListN.{getD, take}
+use Rattle.octets.specs.Octets.{bytes}
+use Rattle.rules.specs.declared.Answer.{Answer}
+use Rattle.rules.specs.ImageRules.{accepted}
+use Rattle.rules.specs.Step.{step, run, answers}
+use Rattle.rules.specs.Computing.{computing}
+
+-- the image: header, certificates 10, 11, 20 and a free slot, cards 1 and 2, executable 1 and a free slot, table
+abbrev pub image : List ℕ
+image =
+    bytes 40 0x0001_0004_0002_0002_0002_0001_0000_0000_00000064_00000028_00000088_00000098_000000b0_000000b8
+    ++ bytes 24 0x000a_0000_00_01_01_01_000003e8_00000000_000001f4_000003e8
+    ++ bytes 24 0x000b_0000_01_01_01_01_000003e9_000003e8_000001f4_000000c8
+    ++ bytes 24 0x0014_0002_00_01_01_01_000007d0_00000000_00000258_000003e8
+    ++ bytes 24 0
+    ++ bytes 8 0x0001_0000_000001f4
+    ++ bytes 8 0x0002_0000_00000258
+    ++ bytes 12 0x0001_01_00_000003e9_00000000
+    ++ bytes 12 0
+    ++ bytes 4 0x01_02_02_01
+    ++ bytes 4 0x00_02_02_00
+
+-- kind, actor, id, second, third, fourth, key, verifying key, owner, expiry
+abbrev pub events : List (List ℕ)
+events =
+    bytes 24 0x0f_00_0001_0001_00_00_00000000_00000000_00000000_00000000
+    ∷ bytes 24 0x01_00_0000_0000_00_00_000000c8_00000000_00000000_00000000
+    ∷ bytes 24 0x0f_00_0001_0001_00_00_00000000_00000000_00000000_00000000
+    ∷ bytes 24 0x01_00_0000_0000_00_00_000000c9_00000000_00000000_00000000
+    ∷ bytes 24 0x0f_00_0001_0001_00_00_00000000_00000000_00000000_00000000
+    ∷ bytes 24 0x0f_00_0001_0000_00_00_00000000_00000000_00000000_00000000
+    ∷ bytes 24 0x0d_01_0001_0000_00_00_00000000_00000000_00000000_00000000
+    ∷ bytes 24 0x0f_00_0001_0000_00_00_00000000_00000000_00000000_00000000
+    ∷ bytes 24 0x02_00_0000_0002_00_00_00000000_00000000_00000000_00000000
+    ∷ bytes 24 0x03_00_0000_0000_00_00_00000000_00000000_00000000_00000000
+    ∷ bytes 24 0x0c_00_0001_0000_00_00_00000000_00000000_00000000_00000000
+    ∷ bytes 24 0x07_01_000a_0000_00_00_00000000_00000000_00000000_00000000
+    ∷ bytes 24 0x07_02_000a_0000_00_00_00000000_00000000_00000000_00000000
+    ∷ bytes 24 0x01_00_0000_0000_00_00_00000096_00000000_00000000_00000000
+    ∷ []
+
+abbrev told : ℕ → ℕ → ℕ → Answer
+told c d n = record { code = c; domain = d; links = n }
+
+-- the lines of 01, less the event's number and kind
+abbrev pub lines : List Answer
+lines =
+    told 0 1 2
+    ∷ told 0 0 0
+    ∷ told 0 1 2
+    ∷ told 0 0 0
+    ∷ told 15 0 0
+    ∷ told 16 0 0
+    ∷ told 0 0 0
+    ∷ told 0 0 0
+    ∷ told 0 0 0
+    ∷ told 0 0 0
+    ∷ told 0 0 0
+    ∷ told 4 0 0
+    ∷ told 0 0 0
+    ∷ told 5 0 0
+    ∷ []
+
+pub image-accepted : accepted image ≡ true
+unfolding computing
+image-accepted = refl
+
+pub run-as-printed : answers image events ≡ lines
+unfolding computing
+run-as-printed = refl
+
+-- ---- "Boundaries, marked P"
+
+-- third party certificates 5 to 1, each verified by the next, of which 1 is a root; 6 and 7, which verify each other; executables 1, 2 and 3, signed by the keys 4, 5 and 6
+abbrev pub chains-image : List ℕ
+chains-image =
+    bytes 40 0x0001_0007_0000_0003_0001_0000_0000_0000_00000064_00000028_000000d0_000000d0_000000f4_000000f8
+    ++ bytes 24 0x0005_0000_01_03_01_01_00000005_00000004_00000000_00000064
+    ++ bytes 24 0x0004_0000_01_03_01_01_00000004_00000003_00000000_00000064
+    ++ bytes 24 0x0003_0000_01_03_01_01_00000003_00000002_00000000_00000064
+    ++ bytes 24 0x0002_0000_01_03_01_01_00000002_00000001_00000000_00000064
+    ++ bytes 24 0x0001_0000_00_03_01_01_00000001_00000000_00000000_00000000
+    ++ bytes 24 0x0006_0000_01_03_01_01_00000006_00000007_00000000_00000064
+    ++ bytes 24 0x0007_0000_01_03_01_01_00000007_00000006_00000000_00000064
+    ++ bytes 12 0x0001_00_00_00000004_00000000
+    ++ bytes 12 0x0002_00_00_00000005_00000000
+    ++ bytes 12 0x0003_00_00_00000006_00000000
+    ++ bytes 4 0x00_02_02_02
+
+abbrev pub verify-1 : List ℕ
+verify-1 = bytes 24 0x0c_00_0001_0000_00_00_00000000_00000000_00000000_00000000
+
+abbrev pub verify-2 : List ℕ
+verify-2 = bytes 24 0x0c_00_0002_0000_00_00_00000000_00000000_00000000_00000000
+
+abbrev pub verify-3 : List ℕ
+verify-3 = bytes 24 0x0c_00_0003_0000_00_00_00000000_00000000_00000000_00000000
+
+-- an image, the events before, the event, and what it is to be told
+pub record Boundary : Type 0 where
+  pub start : List ℕ
+  pub before : List (List ℕ)
+  pub event : List ℕ
+  pub expected : Answer
+
+-- event n of the run, counted from 0 on
+abbrev pub in-the-run : ℕ → Answer → Boundary
+in-the-run n a = record { start = image; before = take n events; event = getD events n []; expected = a }
+
+abbrev pub at-a-chain : List ℕ → Answer → Boundary
+at-a-chain v a = record { start = chains-image; before = []; event = v; expected = a }
+
+-- "events 1, 3, 5, 6, 8, 11, 13 above; a chain of 4 (links 4) and of 5 (none); two issued records verifying each other (none)"
+abbrev pub boundaries : List Boundary
+boundaries =
+    in-the-run 0 (told 0 1 2)
+    ∷ in-the-run 2 (told 0 1 2)
+    ∷ in-the-run 4 (told 15 0 0)
+    ∷ in-the-run 5 (told 16 0 0)
+    ∷ in-the-run 7 (told 0 0 0)
+    ∷ in-the-run 10 (told 0 0 0)
+    ∷ in-the-run 12 (told 0 0 0)
+    ∷ at-a-chain verify-1 (told 0 3 4)
+    ∷ at-a-chain verify-2 (told 0 0 0)
+    ∷ at-a-chain verify-3 (told 0 0 0)
+    ∷ []
+
+-- what the rules tell it
+abbrev pub heard : Boundary → Answer
+heard b = step (run (b .start) (b .before)) (b .event) .answer
+
+pub chains-image-accepted : accepted chains-image ≡ true
+unfolding computing
+chains-image-accepted = refl
+
+-- "These ten are shown to hold for the written rules, as one list under one claim."
+pub boundaries-hold : map heard boundaries ≡ map (λ b. b .expected) boundaries
+unfolding computing
+boundaries-hold = refl
