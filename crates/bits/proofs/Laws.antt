@@ -6,6 +6,7 @@ use native.Mathlib.Omega.{arith}
 use lib.Pow.{field, mod-mod-pow, pow-pos, pow-add, pow-mono, ones-lt, split, high, low, shl-exact, shr-lt, shr-shr}
 use native.Mathlib.Decide.{decLt}
 use lib.Bits.{bitAnd, bitOr, and-mask, or-block, and-block, or-step, or-zero-r, and-high}
+use lib.Arith.{digits-lt}
 use lib.Dec.{lit<, lit≤}
 use Rattle.bits.specs.Bits.{digit, put-digit}
 
@@ -35,18 +36,15 @@ mask k h =
     let d : (Q - 2) * P ≡ P * Q - P * 2 = mul-comm (Q - 2) P ∙ mul-sub P Q 2 in
     omega (arith, mul-comm Q P, pow-pos k)
 
-above : (w k : ℕ) → w < 2 ^ 32 → k < 32 → w / 2 ^ k / 2 < 2 ^ (31 - k)
-above w k hw h =
-    let s : 32 ≡ (31 - k) + (k + 1) = omega arith in
-    rw (shr-shr w k 1)
-    (shr-lt (31 - k) (k + 1) (subst (λ (n : ℕ). w < 2 ^ n) s hw))
+above : (w k j n : ℕ) → n ≡ j + (k + 1) → w < 2 ^ n → w / 2 ^ k / 2 < 2 ^ j
+above w k j n s h = rw (shr-shr w k 1) (shr-lt j (k + 1) (subst (λ (n : ℕ). w < 2 ^ n) s h))
 
 pub and-put : (w k : ℕ) → w < 2 ^ 32 → k < 32 → bitAnd w (4294967295 - 1 * 2 ^ k % 4294967296) ≡ put-digit w k 0
 unfolding put-digit
 and-put w k hw h =
     ap₂ bitAnd (sym (split w k)) (ap (λ (x : ℕ). 4294967295 - x) (one-shl k h) ∙ mask k h)
     ∙ and-block k (w / 2 ^ k) (2 ^ ((31 - k) + 1) - 2 ^ 1) (w % 2 ^ k) (2 ^ k - 1) (mod-lt w (pow-pos k)) (ones-lt k)
-    ∙ ap₂ (λ (x y : ℕ). x * 2 ^ k + y) (and-high (w / 2 ^ k) (31 - k) 1 ∙ ap (λ (x : ℕ). x * 2) (mod-eq-of-lt (above w k hw h)) ∙ sym (add-zero (w / 2 ^ k / 2 * 2))) (and-mask (w % 2 ^ k) k ∙ mod-mod w (2 ^ k))
+    ∙ ap₂ (λ (x y : ℕ). x * 2 ^ k + y) (and-high (w / 2 ^ k) (31 - k) 1 ∙ ap (λ (x : ℕ). x * 2) (mod-eq-of-lt (above w k (31 - k) 32 (omega arith) hw)) ∙ sym (add-zero (w / 2 ^ k / 2 * 2))) (and-mask (w % 2 ^ k) k ∙ mod-mod w (2 ^ k))
 
 -- ---- a put digit is there, and every other digit is as it was
 
@@ -97,3 +95,16 @@ digit-other w k b j hb ne =
           let s : k + suc (j - k - 1) ≡ j = omega arith in
           subst (λ (n : ℕ). digit (put-digit w k b) n ≡ digit w n) s (other-above w k b (j - k - 1) hb)
     ]
+
+-- ---- a put digit below the n-th keeps a number of n digits one of n digits
+
+pub put-digit-small : (w k b n : ℕ) → w < 2 ^ n → k < n → b < 2 → put-digit w k b < 2 ^ n
+unfolding put-digit
+put-digit-small w k b n h l hb =
+    let j : ℕ = n - k - 1 in
+    let a : w / 2 ^ k / 2 < 2 ^ j = above w k j n (omega arith) h in
+    let c : w / 2 ^ k / 2 * 2 + b < 2 ^ j * 2 = omega arith in
+    subst (λ (x : ℕ). put-digit w k b < x) (whole j (omega arith)) (digits-lt c (mod-lt w (pow-pos k)))
+  where
+    whole : (j : ℕ) → (j + 1) + k ≡ n → 2 ^ j * 2 * 2 ^ k ≡ 2 ^ n
+    whole j s = ap (λ (x : ℕ). x * 2 ^ k) (sym (pow-add 2 j 1)) ∙ sym (pow-add 2 (j + 1) k) ∙ ap (λ (x : ℕ). 2 ^ x) s

@@ -14,9 +14,16 @@ abbrev pub certificate-read : List ℕ → ℕ → Certificate
 certificate-read l a =
     record { id = be16 l (a + 0); place = be16 l (a + 2); kind = be8 l (a + 4); domain = be8 l (a + 5); mark = be8 l (a + 6); enabled = be8 l (a + 7); key = be32 l (a + 8); verifying = be32 l (a + 12); owner = be32 l (a + 16); expiry = be32 l (a + 20) }
 
+-- its small fields, which take the first 8 bytes, and then its words
+abbrev pub certificate-small : Certificate → List ℕ
+certificate-small c =
+    bytes 2 (c .id) ++ (bytes 2 (c .place) ++ (bytes 1 (c .kind) ++ (bytes 1 (c .domain) ++ (bytes 1 (c .mark) ++ bytes 1 (c .enabled)))))
+
+abbrev pub certificate-words : Certificate → List ℕ
+certificate-words c = bytes 4 (c .key) ++ (bytes 4 (c .verifying) ++ (bytes 4 (c .owner) ++ bytes 4 (c .expiry)))
+
 abbrev pub certificate-bytes : Certificate → List ℕ
-certificate-bytes c =
-    bytes 2 (c .id) ++ (bytes 2 (c .place) ++ (bytes 1 (c .kind) ++ (bytes 1 (c .domain) ++ (bytes 1 (c .mark) ++ (bytes 1 (c .enabled) ++ (bytes 4 (c .key) ++ (bytes 4 (c .verifying) ++ (bytes 4 (c .owner) ++ bytes 4 (c .expiry)))))))))
+certificate-bytes c = certificate-small c ++ certificate-words c
 
 -- "u16 number (not 0, distinct), u16 zero, u32 operator"
 abbrev pub card-read : List ℕ → ℕ → Card

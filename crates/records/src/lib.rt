@@ -6,7 +6,7 @@ ghost use Prim.Native.Nat.{_+_, _≤_};
 ghost use lib.ListN.{length};
 ghost use Rattle.records.specs.Sizes.{header-size, certificate-size, card-size, executable-size, row-size, event-size};
 ghost use Rattle.octets.specs.Octets.{put};
-ghost use Rattle.records.specs.Layout.{certificate-read, certificate-bytes, card-read, executable-read, executable-bytes, row-read, event-read};
+ghost use Rattle.records.specs.Layout.{certificate-read, certificate-small, certificate-words, certificate-bytes, card-read, executable-read, executable-bytes, row-read, event-read};
 ghost use Rattle.records.specs.Phone.{version, certificate-slots, card-count, executable-slots, action-count, standing-mode, card-present, header-zero, clock-time, certificates-at, cards-at, executables-at, table-at, total-length};
 
 // The header of an image, which is never held as a whole.
@@ -267,9 +267,9 @@ impl Certificate {
         octets::read32(s, at + Certificate::EXPIRY)
     }
 
-    pub fn write(s: &mut [u8], at: usize, c: Certificate)
+    fn write_small(s: &mut [u8], at: usize, c: Certificate)
         requires { ⌜ at + certificate-size ≤ length (now s) ⌝ }
-        ensures { λ _. ⌜ now (s .exit) ≡ put (now (s .entry)) at (certificate-bytes c) ⌝ }
+        ensures { λ _. ⌜ now (s .exit) ≡ put (now (s .entry)) at (certificate-small c) ⌝ }
     {
         octets::write16(s, at + Certificate::ID, c.id);
         octets::write16(s, at + Certificate::PLACE, c.place);
@@ -277,10 +277,24 @@ impl Certificate {
         octets::write8(s, at + Certificate::DOMAIN, c.domain);
         octets::write8(s, at + Certificate::MARK, c.mark);
         octets::write8(s, at + Certificate::ENABLED, c.enabled);
+    }
+
+    fn write_words(s: &mut [u8], at: usize, c: Certificate)
+        requires { ⌜ at + certificate-size ≤ length (now s) ⌝ }
+        ensures { λ _. ⌜ now (s .exit) ≡ put (now (s .entry)) (at + 8) (certificate-words c) ⌝ }
+    {
         octets::write32(s, at + Certificate::KEY, c.key);
         octets::write32(s, at + Certificate::VERIFYING, c.verifying);
         octets::write32(s, at + Certificate::OWNER, c.owner);
         octets::write32(s, at + Certificate::EXPIRY, c.expiry);
+    }
+
+    pub fn write(s: &mut [u8], at: usize, c: Certificate)
+        requires { ⌜ at + certificate-size ≤ length (now s) ⌝ }
+        ensures { λ _. ⌜ now (s .exit) ≡ put (now (s .entry)) at (certificate-bytes c) ⌝ }
+    {
+        Certificate::write_small(s, at, c);
+        Certificate::write_words(s, at, c);
     }
 }
 

@@ -1,29 +1,43 @@
 -- The tests of one record say what its proposition says. Assumes nothing.
-use Prim.Native.Nat.{ℕ, zero, suc, _+_, _≤_, _<_, _^_}
-use mathlib.Core.Bool.{Bool, true, false, cond, not, _&&_, _||_}
+use Prim.Native.Nat.{ℕ, _+_, _≤_}
+use mathlib.Core.Bool.{Bool, cond, not, _&&_, _||_}
 use mathlib.Core.Logic.{_≢_, _⊎_, inl, inr}
-use mathlib.Core.Path.{_≡_, refl, subst, sym, ap, _∙_}
+use mathlib.Core.Path.{_≡_, subst, sym}
 use native.Mathlib.Omega.{arith}
-use lib.Dec.{T, eqb, leb, ltb, leb→le, le→leb, ltb→lt, lt→ltb}
+use lib.Dec.{T, eqb, leb→le, le→leb, ltb→lt, lt→ltb}
 use Rattle.records.specs.Phone.{no-certificate, no-executable}
 use Rattle.records.specs.declared.Certificate.{Certificate}
 use Rattle.records.specs.declared.Card.{Card}
 use Rattle.records.specs.declared.Executable.{Executable}
-use Rattle.rules.specs.Words.{between, _implies_, all-zero}
+use Rattle.rules.specs.Words.{_implies_, all-zero}
 use Rattle.rules.specs.ImageRules.{free-certificate, free-executable, zero-certificate, certificate-ranges, root-fits, issued-fits, certificate-fits, zero-executable, executable-fits}
-use Rattle.rules.proofs.Tests.{tests, is, si, isnt, tnsi, and-l, and-r, and-i, or-i, or-j, or-cases, by-test, cond-yes, cond-no, yes-cond, no-cond, implies-out, implies-in}
+use Rattle.rules.proofs.Tests.{tests, is, si, isnt, tnsi, and-i, or-i, or-cases, by-test, cond-no, yes-cond, no-cond, implies-out, implies-in}
 use Rattle.rules.proofs.Accepted.{Occupied, Named, Stored}
+
+-- the tests that the rules ask of a slot and of a card
+abbrev pub slot-fits : Certificate → Bool
+slot-fits c = cond (free-certificate c) (zero-certificate c) (certificate-fits c)
+
+abbrev pub card-fits : Card → Bool
+card-fits k = not (eqb (k .number) 0) && eqb (k .blank) 0
+
+abbrev pub program-fits : ℕ → Executable → Bool
+program-fits n x = cond (free-executable x) (zero-executable x) (executable-fits n x)
 
 -- orders among the tests
 ruleset ranges = (tests, leb→le, le→leb, ltb→lt, lt→ltb)
 
 -- ---- I2
 
+sum-of : Certificate → ℕ
+sum-of c =
+    c .id + (c .place + (c .kind + (c .domain + (c .mark + (c .enabled + (c .key + (c .verifying + (c .owner + (c .expiry + 0)))))))))
+
 no-certificate-out : (c : Certificate) → T (zero-certificate c) → c ≡ no-certificate
-unfolding zero-certificate all-zero
+unfolding zero-certificate all-zero sum-of
 no-certificate-out c h =
-    let s : c .id + (c .place + (c .kind + (c .domain + (c .mark + (c .enabled + (c .key + (c .verifying + (c .owner + (c .expiry + 0))))))))) ≡ 0 = is _ 0 h in
-    let z : (n : ℕ) → n ≤ c .id + (c .place + (c .kind + (c .domain + (c .mark + (c .enabled + (c .key + (c .verifying + (c .owner + (c .expiry + 0))))))))) → n ≡ 0 = (λ n l. omega arith) in
+    let s : sum-of c ≡ 0 = is (sum-of c) 0 h in
+    let z : (n : ℕ) → n ≤ sum-of c → n ≡ 0 = (λ n l. omega arith) in
     λ i. record {
       id = z (c .id) (omega arith) i;
       place = z (c .place) (omega arith) i;
@@ -53,7 +67,9 @@ unfolding root-fits
 root-in c o =
     let v : c .verifying ≡ 0 = o .0 in
     let a : T (eqb (c .domain) 2 implies eqb (c .place) 0) = implies-in (eqb (c .domain) 2) (eqb (c .place) 0) (λ t. si (c .place) 0 (o .1 (is (c .domain) 2 t))) in
-    let b : T (eqb (c .enabled) 1 || eqb (c .domain) 3) = by-test (eqb (c .domain) 3) (λ t. search tests) (λ t. or-i (eqb (c .enabled) 1) (eqb (c .domain) 3) (si (c .enabled) 1 (o .2 (isnt (c .domain) 3 t)))) in
+    let b : T (eqb (c .enabled) 1 || eqb (c .domain) 3) =
+    by-test (eqb (c .domain) 3) (λ t. search tests)
+    (λ t. or-i (eqb (c .enabled) 1) (eqb (c .domain) 3) (si (c .enabled) 1 (o .2 (isnt (c .domain) 3 t)))) in
     search tests
 
 issued-out : (c : Certificate) → T (issued-fits c) → (c .verifying ≢ 0) × (c .mark ≡ 1) × (c .enabled ≡ 1)
@@ -85,23 +101,23 @@ occupied-in c o =
     let r : T (certificate-ranges c) = search (and-i, tnsi, le→leb, o .id, o .key, o .kind, o .domain .0, o .domain .1, o .mark, o .enabled) depth 12 in
     search and-i
 
-pub slot-out : (c : Certificate) → T (cond (free-certificate c) (zero-certificate c) (certificate-fits c)) → (c ≡ no-certificate) ⊎ Occupied c
+pub slot-out : (c : Certificate) → T (slot-fits c) → (c ≡ no-certificate) ⊎ Occupied c
 slot-out c h =
     by-test (free-certificate c)
     (λ t. inl (no-certificate-out c (yes-cond (free-certificate c) (zero-certificate c) (certificate-fits c) h t)))
     (λ t. inr (occupied-out c (no-cond (free-certificate c) (zero-certificate c) (certificate-fits c) h t)))
 
-pub slot-in : (c : Certificate) → (c ≡ no-certificate) ⊎ Occupied c → T (cond (free-certificate c) (zero-certificate c) (certificate-fits c))
+pub slot-in : (c : Certificate) → (c ≡ no-certificate) ⊎ Occupied c → T (slot-fits c)
 unfolding zero-certificate all-zero
-slot-in c (inl z) = subst (λ c. T (cond (free-certificate c) (zero-certificate c) (certificate-fits c))) (sym z) tt
+slot-in c (inl z) = subst (λ c. T (slot-fits c)) (sym z) tt
 slot-in c (inr o) = cond-no (free-certificate c) (zero-certificate c) (certificate-fits c) (tnsi (c .id) 0 (o .id)) (occupied-in c o)
 
 -- ---- I3
 
-pub named-out : (k : Card) → T (not (eqb (k .number) 0) && eqb (k .blank) 0) → Named k
+pub named-out : (k : Card) → T (card-fits k) → Named k
 named-out k h = record { number = search tests; blank = search tests }
 
-pub named-in : (k : Card) → Named k → T (not (eqb (k .number) 0) && eqb (k .blank) 0)
+pub named-in : (k : Card) → Named k → T (card-fits k)
 named-in k n = search tests
 
 -- ---- I7
@@ -125,13 +141,13 @@ stored-in : (n : ℕ) (x : Executable) → Stored n x → T (executable-fits n x
 unfolding executable-fits
 stored-in n x s = search (and-i, si, le→leb, s .domain, s .blank, s .permissions)
 
-pub executable-out : (n : ℕ) (x : Executable) → T (cond (free-executable x) (zero-executable x) (executable-fits n x)) → (x ≡ no-executable) ⊎ Stored n x
+pub executable-out : (n : ℕ) (x : Executable) → T (program-fits n x) → (x ≡ no-executable) ⊎ Stored n x
 executable-out n x h =
     by-test (free-executable x)
     (λ t. inl (no-executable-out x (yes-cond (free-executable x) (zero-executable x) (executable-fits n x) h t)))
     (λ t. inr (stored-out n x (isnt (x .id) 0 t) (no-cond (free-executable x) (zero-executable x) (executable-fits n x) h t)))
 
-pub executable-in : (n : ℕ) (x : Executable) → (x ≡ no-executable) ⊎ Stored n x → T (cond (free-executable x) (zero-executable x) (executable-fits n x))
+pub executable-in : (n : ℕ) (x : Executable) → (x ≡ no-executable) ⊎ Stored n x → T (program-fits n x)
 unfolding zero-executable all-zero
-executable-in n x (inl z) = subst (λ x. T (cond (free-executable x) (zero-executable x) (executable-fits n x))) (sym z) tt
+executable-in n x (inl z) = subst (λ x. T (program-fits n x)) (sym z) tt
 executable-in n x (inr s) = cond-no (free-executable x) (zero-executable x) (executable-fits n x) (tnsi (x .id) 0 (s .id)) (stored-in n x s)

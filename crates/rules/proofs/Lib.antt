@@ -10,3 +10,7 @@ pub mod Roots
 pub mod Changes
 pub mod Least
 pub mod Loops
+pub mod Keys
+pub mod Shortest
+pub mod Domain
+pub mod Pairs

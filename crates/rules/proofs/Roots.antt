@@ -1,12 +1,11 @@
 -- What a valid root is worth, and what it depends on. All that the proofs know of the meaning of valid. Assumes nothing.
 use Prim.Native.Nat.{ℕ}
-use mathlib.Core.Bool.{Bool, _&&_}
 use mathlib.Core.Path.{_≡_, sym, _∙_}
-use lib.Dec.{T, eqb}
+use lib.Dec.{T}
 use Rattle.records.specs.declared.Certificate.{Certificate}
 use Rattle.rules.specs.Chains.{valid-root}
 use Rattle.rules.specs.ImageRules.{valid-in}
-use Rattle.rules.proofs.Tests.{tests, is, si, and-i}
+use Rattle.rules.proofs.Tests.{tests}
 use Rattle.rules.proofs.Accepted.{Valid}
 
 pub valid-root-of : (d t : ℕ) (c : Certificate) → Valid d t c → T (valid-root t c)

@@ -164,6 +164,9 @@ unfoldable pub code-of : Phone → Event → ℕ
 code-of p e = first (refusals p e)
 
 -- for any bytes of an image and of an event: 1 "image breaks a rule I1–I8", 2 "event not 24 bytes"
+abbrev pub rows : List ℕ → List ℕ → List Check
+rows l v =
+    (not (accepted l) ⇒ 1) ∷ (not (eqb (length v) event-size) ⇒ 2) ∷ refusals (decode l) (event-read v 0)
+
 unfoldable pub code : List ℕ → List ℕ → ℕ
-code l v =
-    first ((not (accepted l) ⇒ 1) ∷ (not (eqb (length v) event-size) ⇒ 2) ∷ refusals (decode l) (event-read v 0))
+code l v = first (rows l v)

@@ -38,6 +38,11 @@ listed e = take (e .fourth) (eight e)
 abbrev pub unlisted : Event → List ℕ
 unlisted e = drop (e .fourth) (eight e)
 
+-- the event taken as one of kind k: at its own kind it is the event itself
+abbrev pub with-kind : ℕ → Event → Event
+with-kind k e =
+    record { kind = k; actor = e .actor; id = e .id; second = e .second; third = e .third; fourth = e .fourth; key = e .key; verifying = e .verifying; owner = e .owner; expiry = e .expiry }
+
 -- ---- the form of each kind: "Fields not named below are 0"; "Where a kind names an id, 0 is out of range."
 
 -- 1 clock: "key = new time"

@@ -1,5 +1,6 @@
 pub mod Words
 pub mod Chains
+pub mod Explicit
 pub mod ImageRules
 pub mod Actors
 pub mod Forms

@@ -1,0 +1,78 @@
+use borrow.Author.Needs.{needs}
+use native.Mathlib.Omega.{arith}
+use Rattle.chain.proofs.Rounds.{counted-none}
+use Prim.Native.Nat.{ℕ, _<_}
+use borrow.Fn.Kinds.{In}
+use borrow.Fn.PlainCycle.{Measures, is, falls, and}
+use Rattle.chain.proofs.good_within.Reads as good-within
+use Rattle.chain.proofs.good_within.Kinds as good-within-kinds
+use Rattle.chain.proofs.+good_within.Lts-good_within as good-within-lts
+use Rattle.chain.proofs.round.Reads as round-reads
+use Rattle.chain.proofs.+good_within.{statement}
+use Rattle.chain.proofs.+good_within.Tie.{close}
+
+abbrev μ-good-within : Measures 1 good-within-kinds.ps ℕ
+μ-good-within κs a = a .1 .0
+
+abbrev good-within-at : ℕ → In 1 good-within-kinds.ps
+good-within-at t =
+    and 1 good-within-kinds.ps (is 1 good-within-kinds.ps μ-good-within t) good-within.Pre
+
+abbrev good-within-below : ℕ → In 1 good-within-kinds.ps
+good-within-below t =
+    and 1 good-within-kinds.ps (falls 1 good-within-kinds.ps _<_ μ-good-within t) good-within.Pre
+
+good-within-returns : (t : ℕ) → good-within-lts.Need-returns (
+  good-within-below t,
+  good-within.Post,
+  round-reads.Asked,
+  round-reads.Learnt,
+) (good-within-at t) good-within.Post
+good-within-returns t c = counted-none _ _ (c .if1 .taken)
+
+good-within-sub-good-within : (t : ℕ) → good-within-lts.Need-sub-good-within (
+  good-within-below t,
+  good-within.Post,
+  round-reads.Asked,
+  round-reads.Learnt,
+) (good-within-at t) good-within.Post
+good-within-sub-good-within t c = search needs
+
+good-within-good-within-requires : (t : ℕ) → good-within-lts.Need-good-within-requires (
+  good-within-below t,
+  good-within.Post,
+  round-reads.Asked,
+  round-reads.Learnt,
+) (good-within-at t) good-within.Post
+good-within-good-within-requires t c κs = search needs
+
+good-within-round-requires : (t : ℕ) → good-within-lts.Need-round-requires (
+  good-within-below t,
+  good-within.Post,
+  round-reads.Asked,
+  round-reads.Learnt,
+) (good-within-at t) good-within.Post
+good-within-round-requires t c κs = search needs
+
+good-within-returns-2 : (t : ℕ) → good-within-lts.Need-returns-2 (
+  good-within-below t,
+  good-within.Post,
+  round-reads.Asked,
+  round-reads.Learnt,
+) (good-within-at t) good-within.Post
+good-within-returns-2 t c = c .round .ensures _ (omega arith) (c .before .before .good-within .ensures)
+
+pub +good-within-spec : {M : Type 1} → statement M
++good-within-spec = close μ-good-within λ t. good-within-lts.spec (
+  good-within-below t,
+  good-within.Post,
+  round-reads.Asked,
+  round-reads.Learnt,
+)
+    (good-within-at t)
+    good-within.Post
+    (good-within-returns t)
+    (good-within-sub-good-within t)
+    (good-within-good-within-requires t)
+    (good-within-round-requires t)
+    (good-within-returns-2 t)

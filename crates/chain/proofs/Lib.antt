@@ -1,0 +1,4 @@
+pub mod Counts
+pub mod Rounds
+pub mod Looks
+pub mod Domains

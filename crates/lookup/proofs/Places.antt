@@ -1,0 +1,61 @@
+-- Where the first slot that passes a test stands, what a loop keeps of it, and what it is worth. Assumes nothing.
+use Prim.Native.Nat.{ℕ, zero, suc, _+_, _≤_, _<_}
+use mathlib.Core.Bool.{Bool, true, false, cond, not, _||_}
+use mathlib.Core.List.{List, [], _∷_}
+use mathlib.Core.Path.{_≡_, refl, sym, ap, _∙_}
+use native.Mathlib.Numerals.{add-one}
+use native.Mathlib.Omega.{arith}
+use borrow.Author.Tests.{lt-ltb, le-ltb}
+use lib.Dec.{ltb, leb·suc-zero, leb·suc-suc}
+use lib.ListN.{length, getD, set, drop, drop-of-length-le}
+use lib.Seq.{drop-cons}
+use Rattle.rules.specs.Words.{any, find, fill}
+use Rattle.lookup.specs.Places.{first-place}
+
+module _ {A : Type 0} (t : A → Bool) (d : A) (l : List A) (i : ℕ) where
+  -- the rest of the list, its first slot apart
+  rest : i < length l → drop i l ≡ getD l i d ∷ drop (i + 1) l
+  rest h = drop-cons l i d h ∙ ap (λ n. getD l i d ∷ drop n l) (sym (add-one i))
+
+  pub place-here : first-place t l ≡ i + first-place t (drop i l) → i < length l → t (getD l i d) ≡ true → i ≡ first-place t l
+  unfolding first-place
+  place-here inv h e = let z : first-place t (drop i l) ≡ 0 = rw (rest h, e) in omega arith
+
+  pub place-next : first-place t l ≡ i + first-place t (drop i l) → i < length l → t (getD l i d) ≡ false → first-place t l ≡ i + 1 + first-place t (drop (i + 1) l)
+  unfolding first-place
+  place-next inv h e = let z : first-place t (drop i l) ≡ suc (first-place t (drop (i + 1) l)) = rw (rest h, e) in omega arith
+
+  pub place-end : first-place t l ≡ i + first-place t (drop i l) → length l ≤ i → i ≡ first-place t l
+  unfolding first-place
+  place-end inv h = let z : first-place t (drop i l) ≡ 0 = rw (drop-of-length-le l h) in omega arith
+
+-- the first slot that passes is a slot exactly if some slot passes, and it has what `find` finds
+module _ {A : Type 0} (t : A → Bool) where
+  place-any : (l : List A) → any t l ≡ ltb (first-place t l) (length l)
+  unfolding any first-place
+  place-any [] = sym (leb·suc-zero 0)
+  place-any (x ∷ l) = go (t x)
+    where
+      go : (b : Bool) → (b || any t l) ≡ ltb (cond b 0 (suc (first-place t l))) (suc (length l))
+      go true = sym (lt-ltb 0 (suc (length l)) (omega arith))
+      go false = place-any l ∙ sym (leb·suc-suc (suc (first-place t l)) (length l))
+
+  pub place-find : (d : A) (l : List A) → find t d l ≡ getD l (first-place t l) d
+  unfolding find first-place
+  place-find d [] = refl
+  place-find d (x ∷ l) = go (t x)
+    where
+      go : (b : Bool) → cond b x (find t d l) ≡ getD (x ∷ l) (cond b 0 (suc (first-place t l))) d
+      go true = refl
+      go false = place-find d l
+
+  -- of n slots, i is the first that passes
+  module _ {i n : ℕ} (l : List A) (first : i ≡ first-place t l) (slots : n ≡ length l) where
+    pub place-none : n ≤ i → any t l ≡ false
+    place-none h = place-any l ∙ le-ltb (first-place t l) (length l) (omega arith)
+
+    pub place-some : i < n → any t l ≡ true
+    place-some h = place-any l ∙ lt-ltb (first-place t l) (length l) (omega arith)
+
+    pub place-named : (d : A) {x : A} → x ≡ getD l i d → x ≡ find t d l
+    place-named d e = e ∙ ap (λ k. getD l k d) first ∙ sym (place-find d l)

@@ -1,0 +1,59 @@
+use native.Mathlib.Nat.{zero-add}
+use borrow.Author.Needs.{needs}
+use native.Mathlib.Omega.{arith}
+use Prim.Native.Nat.{_+_, _≤_, _-_}
+use lib.ListN.{length, drop}
+use mathlib.Core.Path.{_≡_, sym, ap, _∙_}
+use lib.Dec.{eqb}
+use borrow.Author.Tests.{eq-eqb, ne-eqb}
+use Rattle.records.specs.Phone.{decode, no-certificate}
+use Rattle.rules.specs.Codes.{has-id}
+use Rattle.lookup.specs.Places.{first-place}
+use Rattle.lookup.proofs.Places.{place-here, place-next, place-end}
+use Rattle.lookup.proofs.certificate_slot.Statement.{statement}
+use Rattle.lookup.proofs.certificate_slot.Tie as tie
+
+abbrev Inv-loop : tie.InvT-loop
+Inv-loop s id slots i₀ i = (i ≤ slots) × (slots ≡ length (decode s .trust .certificates)) × (first-place (has-id id) (decode s .trust .certificates) ≡ i + first-place (has-id id) (drop i (decode s .trust .certificates)))
+
+abbrev μ-loop : tie.MeasureT-loop
+μ-loop s id slots i₀ i = slots - i
+
+certificate-slots-requires : tie.Need-certificate-slots-requires Inv-loop μ-loop
+certificate-slots-requires c κs = search needs
+
+loop-holds : tie.Need-loop-holds Inv-loop μ-loop
+loop-holds c = (search needs, search needs, sym (zero-add _))
+
+certificate-requires : tie.Need-certificate-requires Inv-loop μ-loop
+certificate-requires c κs = search needs
+
+returns : tie.Need-returns Inv-loop μ-loop
+returns c = place-here _ no-certificate _ (c .before .before .before .before .loop .i) (c .before .before .before .before .loop .inv .2) (omega arith) (ap (λ x. eqb (x .id) (c .before .before .before .before .before .before .before .args .id)) (sym (c .before .before .certificate .ensures)) ∙ eq-eqb _ _ (c .if1 .taken))
+
+add-i : tie.Need-add-i Inv-loop μ-loop
+add-i c = search needs
+
+loop-less : tie.Need-loop-less Inv-loop μ-loop
+loop-less c = search needs
+
+loop-again : tie.Need-loop-again Inv-loop μ-loop
+loop-again c = (search needs, search needs, place-next _ no-certificate _ (c .before .before .before .before .loop .i) (c .before .before .before .before .loop .inv .2) (omega arith) (ap (λ x. eqb (x .id) (c .before .before .before .before .before .before .before .args .id)) (sym (c .before .before .certificate .ensures)) ∙ ne-eqb _ _ (c .if1 .left)))
+
+returns-2 : tie.Need-returns-2 Inv-loop μ-loop
+returns-2 c = (omega (arith, place-end _ no-certificate _ (c .before .loop .i) (c .before .loop .inv .2) (omega arith)))
+
+pub certificate-slot-spec : {M : Type 1} → statement M
+certificate-slot-spec =
+    tie.close
+    (tie.spec
+    Inv-loop
+    μ-loop
+    certificate-slots-requires
+    loop-holds
+    certificate-requires
+    returns
+    add-i
+    loop-less
+    loop-again
+    returns-2)

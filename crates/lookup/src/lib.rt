@@ -1,0 +1,109 @@
+// Records found: a certificate or an executable by its id, a card by its number, and what the rules ask of them.
+use records::Certificate;
+use records::image;
+ghost use mathlib.Core.Path.{_≡_};
+ghost use lib.ListN.{length};
+ghost use Rattle.records.specs.Phone.{decode};
+ghost use Rattle.records.specs.Frame.{Framed};
+ghost use Rattle.rules.specs.ImageRules.{in-card-table, known-place, operator-of, valid-in, has-valid-operator};
+ghost use Rattle.rules.specs.Codes.{has-id, is-executable};
+ghost use Rattle.lookup.specs.Places.{first-place};
+
+// The slot of the certificate with this id, or the number of slots where there is none. Id 0 finds the lowest free slot.
+pub fn certificate_slot(s: &[u8], id: u16) -> usize
+    requires { ⌜ Framed (now s) ⌝ }
+    ensures { λ r. ⌜ r ≡ first-place (has-id id) (decode (now (s .entry)) .trust .certificates) ⌝ }
+{
+    let slots = image::certificate_slots(s);
+    let mut i: usize = 0;
+    while i < slots {
+        if image::certificate(s, i).id == id {
+            return i;
+        }
+        i += 1;
+    }
+    slots
+}
+
+// The slot of the executable with this id, or the number of slots where there is none. Id 0 finds the lowest free slot.
+pub fn executable_slot(s: &[u8], id: u16) -> usize
+    requires { ⌜ Framed (now s) ⌝ }
+    ensures { λ r. ⌜ r ≡ first-place (is-executable id) (decode (now (s .entry)) .executables) ⌝ }
+{
+    let slots = image::executable_slots(s);
+    let mut i: usize = 0;
+    while i < slots {
+        if image::executable(s, i).id == id {
+            return i;
+        }
+        i += 1;
+    }
+    slots
+}
+
+pub fn in_card_table(s: &[u8], n: u16) -> bool
+    requires { ⌜ Framed (now s) ⌝ }
+    ensures { λ r. ⌜ r ≡ in-card-table (decode (now (s .entry)) .cards) n ⌝ }
+{
+    let cards = image::card_count(s);
+    let mut i: usize = 0;
+    while i < cards {
+        if image::card(s, i).number == n {
+            return true;
+        }
+        i += 1;
+    }
+    false
+}
+
+// "is 0 or in the table"
+pub fn known_place(s: &[u8], n: u16) -> bool
+    requires { ⌜ Framed (now s) ⌝ }
+    ensures { λ r. ⌜ r ≡ known-place (decode (now (s .entry)) .cards) n ⌝ }
+{
+    if n == 0 {
+        return true;
+    }
+    in_card_table(s, n)
+}
+
+// "the card's operator", and 0 where there is no such card.
+pub fn operator_of(s: &[u8], n: u16) -> u32
+    requires { ⌜ Framed (now s) ⌝ }
+    ensures { λ r. ⌜ r ≡ operator-of (decode (now (s .entry)) .cards) n ⌝ }
+{
+    let cards = image::card_count(s);
+    let mut i: usize = 0;
+    while i < cards {
+        let k = image::card(s, i);
+        if k.number == n {
+            return k.operator;
+        }
+        i += 1;
+    }
+    0
+}
+
+// A valid root of domain d.
+pub fn valid_in(d: u8, clock: u32, c: Certificate) -> bool
+    ensures { λ r. ⌜ r ≡ valid-in d clock c ⌝ }
+{
+    chain::valid_root(clock, c) & (c.domain == d)
+}
+
+// Whether a place "has a valid-marked operator root".
+pub fn has_valid_operator(s: &[u8], place: u16) -> bool
+    requires { ⌜ Framed (now s) ⌝ }
+    ensures { λ r. ⌜ r ≡ has-valid-operator (decode (now (s .entry)) .trust) place ⌝ }
+{
+    let slots = image::certificate_slots(s);
+    let mut i: usize = 0;
+    while i < slots {
+        let c = image::certificate(s, i);
+        if valid_in(1, image::clock(s), c) & (c.place == place) {
+            return true;
+        }
+        i += 1;
+    }
+    false
+}

@@ -1,0 +1,103 @@
+-- The tests of I4 and I5 on one certificate or two say what their propositions say. Assumes nothing.
+use Prim.Native.Nat.{ℕ}
+use mathlib.Core.Bool.{Bool, not, _&&_}
+use mathlib.Core.List.{List, List·Memᴰ}
+use mathlib.Core.Logic.{_≢_}
+use mathlib.Core.Path.{_≡_}
+use lib.Dec.{T, eqb, T-not, not-T}
+use Rattle.records.specs.Phone.{Trust, Phone}
+use Rattle.records.specs.declared.Certificate.{Certificate}
+use Rattle.records.specs.declared.Card.{Card}
+use Rattle.rules.specs.ImageRules.{operator-of, operator-root, valid-in, has-valid-operator, key-of-one-domain, card-owns, one-in-place, yields-to-card, one-manufacturer}
+use Rattle.rules.proofs.Tests.{tests, is, si, and-i, implies-out, implies-in}
+use Rattle.rules.proofs.Lists.{Some, any-in, any-out}
+use Rattle.rules.proofs.Accepted.{Valid}
+
+-- ---- I4
+
+module _ (c e : Certificate) where
+  pub key-out : T (key-of-one-domain c e) → c .key ≢ 0 → c .key ≡ e .key → c .domain ≡ e .domain
+  unfolding key-of-one-domain
+  key-out h nz q =
+      is (c .domain) (e .domain) (implies-out (not (eqb (c .key) 0) && eqb (c .key) (e .key)) (eqb (c .domain) (e .domain)) h (search tests))
+
+  pub key-in : (c .key ≢ 0 → c .key ≡ e .key → c .domain ≡ e .domain) → T (key-of-one-domain c e)
+  unfolding key-of-one-domain
+  key-in f =
+      implies-in (not (eqb (c .key) 0) && eqb (c .key) (e .key)) (eqb (c .domain) (e .domain))
+      (λ t. si (c .domain) (e .domain) (f (search tests) (search tests)))
+
+module _ (cards : List Card) (c : Certificate) where
+  pub owns-out : T (card-owns cards c) → c .kind ≡ 0 → c .domain ≡ 1 → c .place ≢ 0 → c .owner ≡ operator-of cards (c .place)
+  unfolding card-owns
+  owns-out h k d z =
+      is (c .owner) (operator-of cards (c .place))
+      (implies-out (operator-root c && not (eqb (c .place) 0)) (eqb (c .owner) (operator-of cards (c .place))) h (search tests))
+
+  pub owns-in : (c .kind ≡ 0 → c .domain ≡ 1 → c .place ≢ 0 → c .owner ≡ operator-of cards (c .place)) → T (card-owns cards c)
+  unfolding card-owns
+  owns-in f =
+      implies-in (operator-root c && not (eqb (c .place) 0)) (eqb (c .owner) (operator-of cards (c .place)))
+      (λ t. si (c .owner) (operator-of cards (c .place)) (f (search tests) (search tests) (search tests)))
+
+-- ---- I5
+
+module _ (t : ℕ) (c e : Certificate) where
+  pub in-place-out : T (one-in-place t c e) → Valid 1 t c → Valid 1 t e → c .place ≡ e .place → c .id ≡ e .id
+  unfolding one-in-place
+  in-place-out h v w q =
+      is (c .id) (e .id) (implies-out (valid-in 1 t c && valid-in 1 t e && eqb (c .place) (e .place)) (eqb (c .id) (e .id)) h (search tests))
+
+  pub in-place-in : (Valid 1 t c → Valid 1 t e → c .place ≡ e .place → c .id ≡ e .id) → T (one-in-place t c e)
+  unfolding one-in-place
+  in-place-in f =
+      implies-in (valid-in 1 t c && valid-in 1 t e && eqb (c .place) (e .place)) (eqb (c .id) (e .id))
+      (λ h. si (c .id) (e .id) (f (search tests) (search tests) (search tests)))
+
+  pub manufacturer-out : T (one-manufacturer t c e) → Valid 2 t c → Valid 2 t e → c .id ≡ e .id
+  unfolding one-manufacturer
+  manufacturer-out h v w = is (c .id) (e .id) (implies-out (valid-in 2 t c && valid-in 2 t e) (eqb (c .id) (e .id)) h (search tests))
+
+  pub manufacturer-in : (Valid 2 t c → Valid 2 t e → c .id ≡ e .id) → T (one-manufacturer t c e)
+  unfolding one-manufacturer
+  manufacturer-in f =
+      implies-in (valid-in 2 t c && valid-in 2 t e) (eqb (c .id) (e .id)) (λ h. si (c .id) (e .id) (f (search tests) (search tests)))
+
+-- a valid operator root in a place
+abbrev pub valid-at : Trust → ℕ → Certificate → Bool
+valid-at t n c = valid-in 1 (t .seen .clock) c && eqb (c .place) n
+
+pub has-valid-in : (t : Trust) (n : ℕ) (c : Certificate) → List·Memᴰ c (t .certificates) → Valid 1 (t .seen .clock) c → c .place ≡ n
+    → T (has-valid-operator t n)
+unfolding has-valid-operator
+has-valid-in t n c m v e = any-in (valid-at t n) m (search tests)
+
+pub has-valid-out : (t : Trust) (n : ℕ) → T (has-valid-operator t n) → Some (valid-at t n) (t .certificates)
+unfolding has-valid-operator
+has-valid-out t n h = any-out (valid-at t n) (t .certificates) h
+
+-- what a valid operator root on the phone goes with, where a card is present
+pub record Yields (p : Phone) (c : Certificate) : Type 0 where
+  pub none-there : T (has-valid-operator (p .trust) (p .trust .seen .card)) → ⊥
+  pub owner : c .owner ≡ operator-of (p .cards) (p .trust .seen .card)
+
+module _ (p : Phone) (c : Certificate) where
+  abbrev yielding : Bool
+  yielding =
+      not (has-valid-operator (p .trust) (p .trust .seen .card)) && eqb (c .owner) (operator-of (p .cards) (p .trust .seen .card))
+
+  pub yields-out : T (yields-to-card p c) → Valid 1 (p .trust .seen .clock) c → c .place ≡ 0 → Yields p c
+  unfolding yields-to-card
+  yields-out h v z =
+      let y = implies-out (valid-at (p .trust) 0 c) yielding h (search tests) in
+      record { none-there = T-not (has-valid-operator (p .trust) (p .trust .seen .card)) (search tests); owner = search tests }
+
+  pub yields-in : (Valid 1 (p .trust .seen .clock) c → c .place ≡ 0 → Yields p c) → T (yields-to-card p c)
+  unfolding yields-to-card
+  yields-in f = implies-in (valid-at (p .trust) 0 c) yielding (λ h. go (f (search tests) (search tests)))
+    where
+      go : Yields p c → T yielding
+      go y =
+          and-i (not (has-valid-operator (p .trust) (p .trust .seen .card))) (eqb (c .owner) (operator-of (p .cards) (p .trust .seen .card)))
+          (not-T (has-valid-operator (p .trust) (p .trust .seen .card)) (y .none-there))
+          (si (c .owner) (operator-of (p .cards) (p .trust .seen .card)) (y .owner))
