@@ -34,20 +34,20 @@ module _ {A : Type 0} (t : A → Bool) where
   place-any : (l : List A) → any t l ≡ ltb (first-place t l) (length l)
   unfolding any first-place
   place-any [] = sym (leb·suc-zero 0)
-  place-any (x ∷ l) = go (t x)
+  place-any (x ∷ l) = go (t x) (place-any l)
     where
-      go : (b : Bool) → (b || any t l) ≡ ltb (cond b 0 (suc (first-place t l))) (suc (length l))
-      go true = sym (lt-ltb 0 (suc (length l)) (omega arith))
-      go false = place-any l ∙ sym (leb·suc-suc (suc (first-place t l)) (length l))
+      go : (b : Bool) → any t l ≡ ltb (first-place t l) (length l) → (b || any t l) ≡ ltb (cond b 0 (suc (first-place t l))) (suc (length l))
+      go true h = sym (lt-ltb 0 (suc (length l)) (omega arith))
+      go false h = h ∙ sym (leb·suc-suc (suc (first-place t l)) (length l))
 
   pub place-find : (d : A) (l : List A) → find t d l ≡ getD l (first-place t l) d
   unfolding find first-place
   place-find d [] = refl
-  place-find d (x ∷ l) = go (t x)
+  place-find d (x ∷ l) = go (t x) (place-find d l)
     where
-      go : (b : Bool) → cond b x (find t d l) ≡ getD (x ∷ l) (cond b 0 (suc (first-place t l))) d
-      go true = refl
-      go false = place-find d l
+      go : (b : Bool) → find t d l ≡ getD l (first-place t l) d → cond b x (find t d l) ≡ getD (x ∷ l) (cond b 0 (suc (first-place t l))) d
+      go true h = refl
+      go false h = h
 
   -- of n slots, i is the first that passes
   module _ {i n : ℕ} (l : List A) (first : i ≡ first-place t l) (slots : n ≡ length l) where

@@ -5,8 +5,10 @@ use mathlib.Core.List.{List, [], _∷_, _++_, map}
 use mathlib.Core.Path.{_≡_, refl}
 use lib.ListN.{getD, take}
 use Rattle.octets.specs.Octets.{bytes}
+use Rattle.records.specs.Phone.{decode}
 use Rattle.rules.specs.declared.Answer.{Answer}
 use Rattle.rules.specs.ImageRules.{accepted}
+use Rattle.rules.specs.Codes.{certificate-named}
 use Rattle.rules.specs.Step.{step, run, answers}
 use Rattle.rules.specs.Computing.{computing}
 
@@ -73,6 +75,11 @@ image-accepted = refl
 pub run-as-printed : answers image events ≡ lines
 unfolding computing
 run-as-printed = refl
+
+-- which the run itself does not print: "Setting the phone's key valid again when the card leaves" is a trap, and key 10 stays invalid after event 10
+pub phone-key-stays-invalid : certificate-named (decode (run image (take 10 events))) 10 .mark ≡ 0
+unfolding computing
+phone-key-stays-invalid = refl
 
 -- ---- "Boundaries, marked P"
 

@@ -1,0 +1,141 @@
+-- One event and a run of events on the bytes of an image: what they make of the phone that it says, and that it stays accepted. Assumes nothing.
+use Prim.Native.Nat.{ℕ}
+use mathlib.Core.Bool.{true, cond}
+use mathlib.Core.List.{List, [], _∷_, map}
+use mathlib.Core.Logic.{_≢_}
+use mathlib.Core.Path.{_≡_, refl, subst, sym, _∙_}
+use borrow.Author.Tests.{eq-eqb, ne-eqb}
+use lib.Dec.{eqb}
+use lib.ListN.{length}
+use Rattle.records.specs.Sizes.{event-size}
+use Rattle.records.specs.Layout.{event-read, event-bytes}
+use Rattle.records.specs.Phone.{Phone, decode, encode}
+use Rattle.records.specs.declared.Event.{Event}
+use Rattle.records.proofs.Records.{event-read-bytes}
+use Rattle.records.proofs.RoundTrip.{decode-encode, length-encode}
+use Rattle.rules.specs.Words.{first}
+use Rattle.rules.specs.ImageRules.{accepted}
+use Rattle.rules.specs.Codes.{rows, code-of, code}
+use Rattle.rules.specs.Effects.{changed}
+use Rattle.rules.specs.Step.{refused, done, Outcome, step, run}
+use Rattle.rules.proofs.Tests.{by-test, is, si, isnt, not-elim, first-out}
+use Rattle.rules.proofs.Accepts.{T-true, accepted-out, accepted-in}
+use Rattle.demands.proofs.After.{after, after-all}
+use Rattle.demands.proofs.Shape.{shape-changed, sized-changed, mode-changed}
+use Rattle.demands.proofs.Kept.{accepted-changed}
+use Rattle.demands.proofs.Header.{fitting, length-framed, framed-fitting}
+
+-- ---- the code
+
+pub code-whole : (l v : List ℕ) → accepted l ≡ true → length v ≡ event-size → code l v ≡ code-of (decode l) (event-read v 0)
+unfolding code code-of first
+code-whole l v a h = rw (a, eq-eqb (length v) event-size h)
+
+-- an event that is done has its 24 bytes and met an accepted image
+pub record Whole (l v : List ℕ) : Type 0 where
+  pub image : accepted l ≡ true
+  pub event : length v ≡ event-size
+  pub code : code-of (decode l) (event-read v 0) ≡ 0
+
+pub code-whole-out : (l v : List ℕ) → code l v ≡ 0 → Whole l v
+unfolding code
+code-whole-out l v h =
+    let w = first-out (rows l v) tt (si (code l v) 0 h) in
+    let a = T-true (accepted l) (not-elim (accepted l) (w .0)) in
+    let n = is (length v) event-size (not-elim (eqb (length v) event-size) (w .1 .0)) in
+    record { image = a; event = n; code = sym (code-whole l v a n) ∙ h }
+
+-- ---- one event
+
+abbrev pub event-done : List ℕ → List ℕ → Outcome
+event-done l v =
+    let p = changed (event-read v 0) (decode l) in
+    record { answer = done (event-read v 0) p; image = encode p }
+
+pub step-done : (l v : List ℕ) → code l v ≡ 0 → step l v ≡ event-done l v
+unfolding step
+step-done l v h = rw h
+
+pub step-refused : (l v : List ℕ) → code l v ≢ 0 → step l v ≡ record { answer = refused (code l v); image = l }
+unfolding step
+step-refused l v h = rw (ne-eqb (code l v) 0 h)
+
+-- done, or refused
+pub step-cases : (P : Outcome → Type 0) (l v : List ℕ) → (code l v ≡ 0 → P (event-done l v))
+    → (code l v ≢ 0 → P (record { answer = refused (code l v); image = l })) → P (step l v)
+step-cases P l v d r =
+    by-test (eqb (code l v) 0)
+    (λ t. let z = is (code l v) 0 t in subst P (sym (step-done l v z)) (d z))
+    (λ t. let z = isnt (code l v) 0 t in subst P (sym (step-refused l v z)) (r z))
+
+pub length-step : (l v : List ℕ) → length (step l v .image) ≡ length l
+length-step l v = step-cases (λ o. length (o .image) ≡ length l) l v go (λ z. refl)
+  where
+    go : code l v ≡ 0 → length (event-done l v .image) ≡ length l
+    go z =
+        let s = shape-changed (event-read v 0) (decode l) in
+        let f = length-framed l (accepted-out l (code-whole-out l v z .image) .0) in
+        length-encode (changed (event-read v 0) (decode l)) ∙ rw (s .certificates, s .cards, s .executables, s .table) (sym f)
+
+pub accepted-step : (l v : List ℕ) → accepted l ≡ true → accepted (step l v .image) ≡ true
+accepted-step l v a = step-cases (λ o. accepted (o .image) ≡ true) l v (λ z. go (code-whole-out l v z .code)) (λ z. a)
+  where
+    e : Event
+    e = event-read v 0
+
+    p : Phone
+    p = decode l
+
+    go : code-of p e ≡ 0 → accepted (encode (changed e p)) ≡ true
+    go z =
+        let ok = accepted-out l a in
+        let f = fitting l (ok .0) in
+        accepted-in (encode (changed e p))
+        (framed-fitting (changed e p) (record { sized = sized-changed e p (f .sized); mode = mode-changed e p (f .mode) (si (code-of p e) 0 z) }))
+        (rw (decode-encode (changed e p)) (accepted-changed p e (ok .1) (si (code-of p e) 0 z)))
+
+-- the phone after an event of 24 bytes
+pub decode-step : (l v : List ℕ) → accepted l ≡ true → length v ≡ event-size → decode (step l v .image) ≡ after (event-read v 0) (decode l)
+unfolding after
+decode-step l v a n =
+    let e = event-read v 0 in
+    let p = decode l in
+    step-cases (λ o. decode (o .image) ≡ cond (eqb (code-of p e) 0) (changed e p) p) l v
+    (λ z. let c : code-of p e ≡ 0 = sym (code-whole l v a n) ∙ z in rw c (decode-encode (changed e p)))
+    (λ z. rw (ne-eqb (code-of p e) 0 (λ c. z (code-whole l v a n ∙ c))))
+
+-- one of any other length changes nothing
+pub step-other : (l v : List ℕ) → length v ≢ event-size → step l v .image ≡ l
+step-other l v n = step-cases (λ o. o .image ≡ l) l v (λ z. absurd (n (code-whole-out l v z .event))) (λ z. refl)
+
+-- ---- a run
+
+pub length-run : (vs : List (List ℕ)) (l : List ℕ) → length (run l vs) ≡ length l
+unfolding run
+length-run [] l = refl
+length-run (v ∷ vs) l = length-run vs (step l v .image) ∙ length-step l v
+
+pub accepted-run : (vs : List (List ℕ)) (l : List ℕ) → accepted l ≡ true → accepted (run l vs) ≡ true
+unfolding run
+accepted-run [] l a = a
+accepted-run (v ∷ vs) l a = accepted-run vs (step l v .image) (accepted-step l v a)
+
+-- the events of a run, less those that have not 24 bytes
+unfoldable pub whole : List (List ℕ) → List Event
+whole [] = []
+whole (v ∷ vs) = cond (eqb (length v) event-size) (event-read v 0 ∷ whole vs) (whole vs)
+
+pub decode-run : (vs : List (List ℕ)) (l : List ℕ) → accepted l ≡ true → decode (run l vs) ≡ after-all (whole vs) (decode l)
+unfolding run whole after-all
+decode-run [] l a = refl
+decode-run (v ∷ vs) l a =
+    decode-run vs (step l v .image) (accepted-step l v a)
+    ∙ by-test (eqb (length v) event-size)
+    (λ t. let n = is (length v) event-size t in rw (eq-eqb (length v) event-size n, decode-step l v a n))
+    (λ t. let n = isnt (length v) event-size t in rw (ne-eqb (length v) event-size n, step-other l v n))
+
+-- events written as bytes are read as they were
+pub whole-bytes : {A : Type 0} (f : A → Event) (l : List A) → whole (map (λ x. event-bytes (f x)) l) ≡ map f l
+unfolding whole
+whole-bytes f [] = refl
+whole-bytes f (x ∷ l) = rw (event-read-bytes (f x), whole-bytes f l)

@@ -1,0 +1,142 @@
+-- Demand 3: withdrawing grants nothing that was refused, giving refuses nothing that was granted; both also with every executable verified. Assumes nothing.
+use Prim.Native.Nat.{ℕ}
+use mathlib.Core.Bool.{Bool, true, _||_}
+use mathlib.Core.List.{List, [], _∷_}
+use mathlib.Core.Logic.{_≢_, _⊎_, inl, inr}
+use mathlib.Core.Path.{_≡_, subst, sym, ap, _∙_}
+use borrow.Author.Tests.{eq-eqb, ne-eqb}
+use lib.Dec.{T, eqb}
+use lib.ListN.{length}
+use Rattle.records.specs.Sizes.{event-size}
+use Rattle.records.specs.Layout.{event-bytes}
+use Rattle.records.specs.Phone.{Phone, decode}
+use Rattle.records.specs.declared.Event.{Event}
+use Rattle.records.proofs.Records.{length-event, event-read-bytes}
+use Rattle.rules.specs.ImageRules.{accepted}
+use Rattle.rules.specs.Codes.{code-of}
+use Rattle.rules.specs.Step.{step, run}
+use Rattle.rules.specs.Demands.{request-event, verify-event, grants, withdrawing, giving}
+use Rattle.rules.proofs.Tests.{is, isnt, or-cases, by-test}
+use Rattle.rules.proofs.Accepted.{Accepted}
+use Rattle.rules.proofs.Accepts.{accepted-out}
+use Rattle.demands.specs.Runs.{is-request, Each-in-turn, Withdrawing-run, Giving-run, verified as image-verified}
+use Rattle.demands.proofs.After.{after, after-all}
+use Rattle.demands.proofs.Kept.{accepted-after, accepted-after-all}
+use Rattle.demands.proofs.Order.{Under, under-refl, under-trans}
+use Rattle.demands.proofs.Grant.{granted, no-more}
+use Rattle.demands.proofs.Settle.{request-still}
+use Rattle.demands.proofs.Withdraw.{withdrawing-under}
+use Rattle.demands.proofs.Give.{giving-over}
+use Rattle.demands.proofs.Verified.{verified, accepted-verified, under-verified}
+use Rattle.demands.proofs.Bytes.{code-whole, accepted-step, decode-step, step-other, accepted-run, whole, decode-run, whole-bytes}
+
+-- every event of a run passes the test, or is a request, at the phone that it meets
+abbrev Each-met : (Phone → Event → Bool) → List Event → Phone → Type 0
+Each-met f [] p = Unit {0}
+Each-met f (e ∷ es) p = T (f p e || is-request e) × Each-met f es (after e p)
+
+-- ---- one event, and a run
+
+one-under : (p : Phone) → Accepted p → (e : Event) → T (withdrawing p e || is-request e) → Under (after e p) p
+one-under p ok e h = go (or-cases (withdrawing p e) (is-request e) h)
+  where
+    go : T (withdrawing p e) ⊎ T (is-request e) → Under (after e p) p
+    go (inl w) = withdrawing-under p e w
+    go (inr r) = subst (λ q. Under q p) (sym (request-still p ok e (is (e .kind) 15 r))) (under-refl p)
+
+one-over : (p : Phone) → Accepted p → (e : Event) → T (giving p e || is-request e) → Under p (after e p)
+one-over p ok e h = go (or-cases (giving p e) (is-request e) h)
+  where
+    go : T (giving p e) ⊎ T (is-request e) → Under p (after e p)
+    go (inl g) = giving-over p ok e g
+    go (inr r) = subst (Under p) (sym (request-still p ok e (is (e .kind) 15 r))) (under-refl p)
+
+run-under : (es : List Event) (p : Phone) → Accepted p → Each-met withdrawing es p → Under (after-all es p) p
+unfolding after-all
+run-under [] p ok w = under-refl p
+run-under (e ∷ es) p ok w =
+    under-trans (after-all es (after e p)) (after e p) p (run-under es (after e p) (accepted-after p e ok) (w .1)) (one-under p ok e (w .0))
+
+run-over : (es : List Event) (p : Phone) → Accepted p → Each-met giving es p → Under p (after-all es p)
+unfolding after-all
+run-over [] p ok g = under-refl p
+run-over (e ∷ es) p ok g =
+    under-trans p (after e p) (after-all es (after e p)) (one-over p ok e (g .0)) (run-over es (after e p) (accepted-after p e ok) (g .1))
+
+-- ---- the demand, of phones
+
+module _ (p : Phone) (ok : Accepted p) (es : List Event) where
+  reached : Accepted (after-all es p)
+  reached = accepted-after-all es p ok
+
+  fewer-granted : Each-met withdrawing es p → (n a : ℕ) → T (granted (after-all es p) n a) → T (granted p n a)
+  fewer-granted w = no-more (after-all es p) p (run-under es p ok w) ok
+
+  more-granted : Each-met giving es p → (n a : ℕ) → T (granted p n a) → T (granted (after-all es p) n a)
+  more-granted g = no-more p (after-all es p) (run-over es p ok g) reached
+
+  fewer-granted-verified : Each-met withdrawing es p → (n a : ℕ) → T (granted (verified (after-all es p)) n a) → T (granted (verified p) n a)
+  fewer-granted-verified w =
+      no-more (verified (after-all es p)) (verified p) (under-verified (after-all es p) p reached ok (run-under es p ok w)) (accepted-verified p ok)
+
+  more-granted-verified : Each-met giving es p → (n a : ℕ) → T (granted (verified p) n a) → T (granted (verified (after-all es p)) n a)
+  more-granted-verified g =
+      no-more (verified p) (verified (after-all es p)) (under-verified p (after-all es p) ok reached (run-over es p ok g)) (accepted-verified (after-all es p) reached)
+
+-- ---- the demand, of bytes
+
+pub grants-is : (l : List ℕ) → accepted l ≡ true → (n a : ℕ) → grants l n a ≡ granted (decode l) n a
+unfolding grants
+grants-is l ok n a =
+    let r = request-event n a in
+    ap (λ c. eqb c 0) (code-whole l (event-bytes r) ok (length-event r) ∙ ap (code-of (decode l)) (event-read-bytes r))
+
+each-met : (f : Phone → Event → Bool) (vs : List (List ℕ)) (l : List ℕ) → accepted l ≡ true → Each-in-turn f l vs → Each-met f (whole vs) (decode l)
+unfolding whole
+each-met f [] l ok h = tt
+each-met f (v ∷ vs) l ok h = go (each-met f vs (step l v .image) (accepted-step l v ok) (h .1))
+  where
+    met : length v ≡ event-size → Each-met f (whole vs) (decode (step l v .image)) → Each-met f (whole (v ∷ vs)) (decode l)
+    met n r = rw (eq-eqb (length v) event-size n) (h .0, subst (Each-met f (whole vs)) (decode-step l v ok n) r)
+
+    passed : length v ≢ event-size → Each-met f (whole vs) (decode (step l v .image)) → Each-met f (whole (v ∷ vs)) (decode l)
+    passed n r = rw (ne-eqb (length v) event-size n) (subst (λ m. Each-met f (whole vs) (decode m)) (step-other l v n) r)
+
+    go : Each-met f (whole vs) (decode (step l v .image)) → Each-met f (whole (v ∷ vs)) (decode l)
+    go r = by-test (eqb (length v) event-size) (λ t. met (is (length v) event-size t) r) (λ t. passed (isnt (length v) event-size t) r)
+
+module _ (l : List ℕ) (ok : accepted l ≡ true) where
+  is-accepted : Accepted (decode l)
+  is-accepted = accepted-out l ok .1
+
+  decode-verified : decode (image-verified l) ≡ verified (decode l)
+  unfolding image-verified verified
+  decode-verified = decode-run _ l ok ∙ ap (λ es. after-all es (decode l)) (whole-bytes (λ x. verify-event (x .id)) (decode l .executables))
+
+  grants-verified : (n a : ℕ) → grants (image-verified l) n a ≡ granted (verified (decode l)) n a
+  unfolding image-verified
+  grants-verified n a = grants-is (image-verified l) (accepted-run _ l ok) n a ∙ ap (λ p. granted p n a) decode-verified
+
+module _ (l : List ℕ) (ok : accepted l ≡ true) (vs : List (List ℕ)) where
+  then : accepted (run l vs) ≡ true
+  then = accepted-run vs l ok
+
+  pub withdrawing-grants-nothing : Withdrawing-run l vs → (n a : ℕ) → T (grants (run l vs) n a) → T (grants l n a)
+  withdrawing-grants-nothing w n a =
+      rw (grants-is l ok n a, grants-is (run l vs) then n a, decode-run vs l ok)
+      (fewer-granted (decode l) (is-accepted l ok) (whole vs) (each-met withdrawing vs l ok w) n a)
+
+  pub giving-refuses-nothing : Giving-run l vs → (n a : ℕ) → T (grants l n a) → T (grants (run l vs) n a)
+  giving-refuses-nothing g n a =
+      rw (grants-is l ok n a, grants-is (run l vs) then n a, decode-run vs l ok)
+      (more-granted (decode l) (is-accepted l ok) (whole vs) (each-met giving vs l ok g) n a)
+
+  pub withdrawing-grants-nothing-verified : Withdrawing-run l vs → (n a : ℕ) → T (grants (image-verified (run l vs)) n a) → T (grants (image-verified l) n a)
+  withdrawing-grants-nothing-verified w n a =
+      rw (grants-verified l ok n a, grants-verified (run l vs) then n a, decode-run vs l ok)
+      (fewer-granted-verified (decode l) (is-accepted l ok) (whole vs) (each-met withdrawing vs l ok w) n a)
+
+  pub giving-refuses-nothing-verified : Giving-run l vs → (n a : ℕ) → T (grants (image-verified l) n a) → T (grants (image-verified (run l vs)) n a)
+  giving-refuses-nothing-verified g n a =
+      rw (grants-verified l ok n a, grants-verified (run l vs) then n a, decode-run vs l ok)
+      (more-granted-verified (decode l) (is-accepted l ok) (whole vs) (each-met giving vs l ok g) n a)

@@ -1,0 +1,127 @@
+-- The premises of demand 3 can be met, and its two lists can take no kind more: each by computed examples. Assumes nothing.
+use Prim.Native.Nat.{ℕ}
+use mathlib.Core.Bool.{Bool, true, false, not, _&&_, _||_}
+use mathlib.Core.List.{List, [], _∷_, _++_}
+use mathlib.Core.Path.{_≡_, refl}
+use lib.Dec.{eqb}
+use Rattle.octets.specs.Octets.{bytes}
+use Rattle.records.specs.Phone.{decode}
+use Rattle.rules.specs.Words.{all}
+use Rattle.rules.specs.ImageRules.{accepted}
+use Rattle.rules.specs.Codes.{code}
+use Rattle.rules.specs.Step.{step, run}
+use Rattle.rules.specs.Demands.{grants, withdrawing, giving}
+use Rattle.rules.specs.Computing.{computing}
+use Rattle.rules.specs.WorkedRun.{image}
+use Rattle.demands.specs.Runs.{Withdrawing-run, Giving-run, event-of, verified}
+
+-- ---- runs of 01's image that change a grant; that it is accepted is `image-accepted` of crates/rules/specs/WorkedRun.antt
+
+-- the clock a second past the expiry of the certificate that signed executable 1
+abbrev clock-201 : List ℕ
+clock-201 = bytes 24 0x01_00_0000_0000_00_00_000000c9_00000000_00000000_00000000
+
+abbrev give-1-0 : List ℕ
+give-1-0 = bytes 24 0x0d_01_0001_0000_00_00_00000000_00000000_00000000_00000000
+
+pub is-withdrawing : Withdrawing-run image (clock-201 ∷ [])
+unfolding computing
+is-withdrawing = (tt, tt)
+
+pub withdrawing-refuses : (grants image 1 1 ≡ true) × (grants (run image (clock-201 ∷ [])) 1 1 ≡ false)
+unfolding computing
+withdrawing-refuses = (refl, refl)
+
+pub is-giving : Giving-run (run image (clock-201 ∷ [])) (give-1-0 ∷ [])
+unfolding computing
+is-giving = (tt, tt)
+
+pub giving-grants : (grants (run image (clock-201 ∷ [])) 1 0 ≡ false) × (grants (run (run image (clock-201 ∷ [])) (give-1-0 ∷ [])) 1 0 ≡ true)
+unfolding computing
+giving-grants = (refl, refl)
+
+-- ---- the kinds that stand in neither list
+
+-- operator roots 10, valid on the phone, and 20, as given, on a card; third party roots 30, enabled, and 40, not; cards 1 and 2 of operators 500
+-- and 600; executables 1 to 4, signed by the keys of 10, 20, 30 and 40, of which 1 and 3 have their domains; one action, for all domains but 0
+abbrev phone : ℕ → ℕ → List ℕ
+phone card root-20 =
+    bytes 12 0x0001_0004_0002_0004_0001_0002
+    ++ bytes 2 card
+    ++ bytes 26 0x0000_00000064_00000028_00000088_00000098_000000c8_000000cc
+    ++ bytes 24 0x000a_0000_00_01_01_01_000003e8_00000000_000001f4_000003e8
+    ++ bytes 24 root-20
+    ++ bytes 24 0x001e_0000_00_03_01_01_00000bb8_00000000_00000000_00000000
+    ++ bytes 24 0x0028_0000_00_03_01_00_00000fa0_00000000_00000000_00000000
+    ++ bytes 8 0x0001_0000_000001f4
+    ++ bytes 8 0x0002_0000_00000258
+    ++ bytes 12 0x0001_01_00_000003e8_00000000
+    ++ bytes 12 0x0002_00_00_000007d0_00000000
+    ++ bytes 12 0x0003_03_00_00000bb8_00000000
+    ++ bytes 12 0x0004_00_00_00000fa0_00000000
+    ++ bytes 4 0x00_02_02_02
+
+-- no card is present, and root 20 is valid on card 2
+abbrev card-away : List ℕ
+card-away = phone 0 0x0014_0002_00_01_01_01_000007d0_00000000_00000258_000003e8
+
+-- card 1 is present, and root 20 is on it, not valid
+abbrev card-here : List ℕ
+card-here = phone 1 0x0014_0001_00_01_00_01_000007d0_00000000_000001f4_000003e8
+
+-- card 2 in; power up with card 2; a message that enables root 40 and no other; root 20 marked valid
+abbrev card-2-in : List ℕ
+card-2-in = bytes 24 0x02_00_0000_0002_00_00_00000000_00000000_00000000_00000000
+
+abbrev up-with-card-2 : List ℕ
+up-with-card-2 = bytes 24 0x04_00_0000_0002_00_00_00000000_00000000_00000000_00000000
+
+abbrev enable-40 : List ℕ
+enable-40 = bytes 24 0x09_04_0000_0000_02_01_0028_0000_00000000_00000000_00000000
+
+abbrev mark-20 : List ℕ
+mark-20 = bytes 24 0x07_02_0014_0000_00_00_00000000_00000000_00000000_00000000
+
+-- an event on an image, and a request
+pub record Example : Type 0 where
+  pub image : List ℕ
+  pub event : List ℕ
+  pub executable : ℕ
+  pub action : ℕ
+
+abbrev example : List ℕ → List ℕ → ℕ → Example
+example l v n = record { image = l; event = v; executable = n; action = 0 }
+
+-- the image is accepted, the event is done, and no list has it
+abbrev fair : Example → Bool
+fair x =
+    accepted (x .image)
+    && eqb (code (x .image) (x .event)) 0
+    && not (withdrawing (decode (x .image)) (event-of (x .event)) || giving (decode (x .image)) (event-of (x .event)))
+
+-- the request is granted by the image, with every application verified
+abbrev granted-verified : List ℕ → Example → Bool
+granted-verified l x = grants (verified l) (x .executable) (x .action)
+
+-- refused before the event and granted after it: were the event withdrawing, demand 3 would fail
+abbrev gains : Example → Bool
+gains x = fair x && not (granted-verified (x .image) x) && granted-verified (step (x .image) (x .event) .image) x
+
+-- granted before and refused after: were it giving, demand 3 would fail
+abbrev loses : Example → Bool
+loses x =
+    fair x && grants (x .image) (x .executable) (x .action) && not (grants (step (x .image) (x .event) .image) (x .executable) (x .action))
+
+abbrev pub gaining : List Example
+gaining = example card-away card-2-in 2 ∷ example card-away up-with-card-2 2 ∷ example card-away enable-40 4 ∷ example card-here mark-20 2 ∷ []
+
+abbrev pub losing : List Example
+losing = example card-away card-2-in 1 ∷ example card-away up-with-card-2 1 ∷ example card-away enable-40 3 ∷ example card-here mark-20 1 ∷ []
+
+pub none-withdraws : all gains gaining ≡ true
+unfolding computing verified
+none-withdraws = refl
+
+pub none-gives : all loses losing ≡ true
+unfolding computing verified
+none-gives = refl

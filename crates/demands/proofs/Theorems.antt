@@ -1,0 +1,151 @@
+-- THE THEOREMS. Each sentence of the three demands with its statement; the files cited hold the arguments. Assumes nothing.
+-- l is an image and v an event, both any bytes; vs is a run of events, refused ones among them.
+-- What the statements speak of: `step`, `run` (rules, specs/Step), `code`, `rows` (specs/Codes), `accepted` (specs/ImageRules),
+-- `grants` (specs/Demands), `Chain-within`, `Shortest` (specs/Explicit), and here specs/Runs and specs/Frames.
+use Prim.Native.Nat.{ℕ, _≤_}
+use mathlib.Core.Bool.{true}
+use mathlib.Core.List.{List}
+use mathlib.Core.Logic.{_≢_, _⊎_, _↔_}
+use mathlib.Core.Path.{_≡_, ap, _∙_}
+use native.Mathlib.Omega.{arith}
+use lib.Dec.{T}
+use lib.ListN.{length}
+use Rattle.records.specs.Phone.{decode, encode}
+use Rattle.records.specs.declared.Certificate.{Certificate}
+use Rattle.records.proofs.RoundTrip.{decode-encode}
+use Rattle.rules.specs.Chains.{most-links}
+use Rattle.rules.specs.Explicit.{Chain-within, Shortest}
+use Rattle.rules.specs.ImageRules.{accepted, «open»}
+use Rattle.rules.specs.Codes.{executable-named, rows, code}
+use Rattle.rules.specs.Effects.{changed}
+use Rattle.rules.specs.Step.{refused, step, run}
+use Rattle.rules.specs.Demands.{grants}
+use Rattle.rules.proofs.Tests.{si}
+use Rattle.rules.proofs.Accepts.{accepted-out}
+use Rattle.rules.proofs.Shortest.{chain-chains}
+use Rattle.rules.proofs.Domain as Domain
+use Rattle.demands.specs.Runs.{Applies, Withdrawing-run, Giving-run, verified, event-of, key-named, phone-after, Valid-operator, Granted}
+use Rattle.demands.specs.Frames.{Framed-change}
+use Rattle.demands.proofs.Table.{first-applies, first-lowest}
+use Rattle.demands.proofs.Bytes
+use Rattle.demands.proofs.Answers
+use Rattle.demands.proofs.Frame.{framed-changed}
+use Rattle.demands.proofs.Kept.{one-operator}
+use Rattle.demands.proofs.Grant.{granted-exact}
+use Rattle.demands.proofs.Demand3
+
+-- ==== Demand 1: any image and any event gets one answer from the table
+
+module _ (l v : List ℕ) where
+  -- "The answer is code, domain, links."
+  pub answer-code : step l v .answer .code ≡ code l v
+  answer-code = Answers.answer-code l v
+
+  -- "Given exactly when", "The lowest that applies is given": a code that is given applies
+  pub code-applies : code l v ≢ 0 → Applies (code l v) (rows l v)
+  unfolding code
+  code-applies h = first-applies (rows l v) h
+
+  -- and where one applies, a code is given that is no higher
+  pub code-lowest : (n : ℕ) → Applies n (rows l v) → (code l v ≢ 0) × (code l v ≤ n)
+  unfolding code
+  code-lowest n h = let f = first-lowest 1 tt h in (omega arith, omega arith)
+
+  -- "Every code other than 0 gives domain 0 and links 0 and leaves the image unchanged."
+  pub refused-unchanged : code l v ≢ 0 → step l v ≡ record { answer = refused (code l v); image = l }
+  refused-unchanged h = Bytes.step-refused l v h
+
+  -- "Domain and links are non-zero only for code 0 of verify and request"
+  pub quiet : event-of v .kind ≢ 12 → event-of v .kind ≢ 15 → (step l v .answer .domain ≡ 0) × (step l v .answer .links ≡ 0)
+  quiet a b = Answers.answer-quiet l v a b
+
+  -- "the executable's domain, and its link count if that domain is not 0"
+  pub domain-told : code l v ≡ 0 → (event-of v .kind ≡ 12) ⊎ (event-of v .kind ≡ 15)
+      → step l v .answer .domain ≡ executable-named (phone-after l v) (event-of v .id) .domain
+  domain-told h k = Answers.answer-domain l v h k
+
+  pub no-domain-no-links : step l v .answer .domain ≡ 0 → step l v .answer .links ≡ 0
+  no-domain-no-links z = Answers.answer-none l v z
+
+  -- no event makes an image longer or shorter, whatever l and v are
+  pub length-kept : length (step l v .image) ≡ length l
+  length-kept = Bytes.length-step l v
+
+pub length-kept-run : (l : List ℕ) (vs : List (List ℕ)) → length (run l vs) ≡ length l
+length-kept-run l vs = Bytes.length-run vs l
+
+-- "opening an image answers 0 or 1": 0 exactly if it is accepted
+pub open-accepts : (l : List ℕ) → ((«open» l ≡ 0) ↔ (accepted l ≡ true)) × ((«open» l ≡ 0) ⊎ («open» l ≡ 1))
+unfolding «open»
+open-accepts l = Answers.opened (accepted l)
+
+-- ==== Demand 2: each event does exactly what 01 says, and an accepted image stays accepted
+
+module _ (l v : List ℕ) where
+  -- the image after every event from the image before it
+  pub event-exact : code l v ≡ 0 → step l v .image ≡ encode (changed (event-of v) (decode l))
+  event-exact h = ap (λ o. o .image) (Bytes.step-done l v h)
+
+  -- and it says the phone that the rules make of the phone before
+  pub event-phone : code l v ≡ 0 → phone-after l v ≡ changed (event-of v) (decode l)
+  event-phone h = ap decode (event-exact h) ∙ decode-encode (changed (event-of v) (decode l))
+
+  -- and all else is kept
+  pub event-frame : code l v ≡ 0 → Framed-change (event-of v) (decode l) (phone-after l v)
+  event-frame h = rw (event-phone h) (framed-changed (event-of v) (decode l) (si _ 0 (Bytes.code-whole-out l v h .code)))
+
+  -- "I1–I8" hold after every event
+  pub accepted-kept : accepted l ≡ true → accepted (step l v .image) ≡ true
+  accepted-kept ok = Bytes.accepted-step l v ok
+
+  -- a domain exactly if a chain of at most four exists
+  pub verify-exact : code l v ≡ 0 → event-of v .kind ≡ 12 → (d : ℕ) → d ≢ 0
+      → (step l v .answer .domain ≡ d) ↔ ((key-named l v ≢ 0) × Chain-within most-links (phone-after l v .trust) d (key-named l v))
+  verify-exact h i d nz = Answers.verify-exact l v h i d nz
+
+  -- the answer gives the shortest length
+  pub count-shortest : code l v ≡ 0 → (event-of v .kind ≡ 12) ⊎ (event-of v .kind ≡ 15) → step l v .answer .domain ≢ 0
+      → (step l v .answer .links ≢ 0)
+      × (step l v .answer .links ≤ most-links)
+      × Shortest (phone-after l v .trust) (step l v .answer .domain) (key-named l v) (step l v .answer .links)
+  count-shortest h k = Answers.count-shortest l v h k
+
+module _ (l : List ℕ) (ok : accepted l ≡ true) where
+  -- I1–I8 hold after every run
+  pub accepted-kept-run : (vs : List (List ℕ)) → accepted (run l vs) ≡ true
+  accepted-kept-run vs = Bytes.accepted-run vs l ok
+
+  -- at most one valid operator root is ever present
+  pub one-valid-operator : (vs : List (List ℕ)) (c e : Certificate) → Valid-operator (decode (run l vs)) c → Valid-operator (decode (run l vs)) e → c ≡ e
+  one-valid-operator vs c e m n =
+      one-operator (decode (run l vs)) (accepted-out (run l vs) (accepted-kept-run vs) .1) c e (m .stored) (n .stored) (m .valid) (n .valid) (m .present) (n .present)
+
+  -- "I4 makes d unique"
+  pub one-domain : (k d f : ℕ) → k ≢ 0 → Chain-within most-links (decode l .trust) d k → Chain-within most-links (decode l .trust) f k → d ≡ f
+  one-domain k d f nz a b =
+      let t = decode l .trust in
+      Domain.one-domain t (accepted-out l ok .1 .trust .held .keys) k d f (chain-chains t k d nz a) (chain-chains t k f nz b)
+
+  -- a grant exactly where a chain and a table byte say so
+  pub grants-exact : (n a : ℕ) → T (grants l n a) ↔ Granted (decode l) n a
+  grants-exact n a = rw (Demand3.grants-is l ok n a) (granted-exact (decode l) (accepted-out l ok .1) n a)
+
+-- ==== Demand 3: of the state that any events, `before`, have led to, and of any run vs from there on
+
+module _ (l : List ℕ) (ok : accepted l ≡ true) (before vs : List (List ℕ)) where
+  -- after withdrawing nothing refused is granted
+  pub withdrawing-grants-nothing : Withdrawing-run (run l before) vs → (n a : ℕ) → T (grants (run (run l before) vs) n a) → T (grants (run l before) n a)
+  withdrawing-grants-nothing w = Demand3.withdrawing-grants-nothing (run l before) (accepted-kept-run l ok before) vs w
+
+  -- after giving nothing granted is refused
+  pub giving-refuses-nothing : Giving-run (run l before) vs → (n a : ℕ) → T (grants (run l before) n a) → T (grants (run (run l before) vs) n a)
+  giving-refuses-nothing g = Demand3.giving-refuses-nothing (run l before) (accepted-kept-run l ok before) vs g
+
+  -- both with every application verified before each request
+  pub withdrawing-grants-nothing-verified : Withdrawing-run (run l before) vs → (n a : ℕ)
+      → T (grants (verified (run (run l before) vs)) n a) → T (grants (verified (run l before)) n a)
+  withdrawing-grants-nothing-verified w = Demand3.withdrawing-grants-nothing-verified (run l before) (accepted-kept-run l ok before) vs w
+
+  pub giving-refuses-nothing-verified : Giving-run (run l before) vs → (n a : ℕ)
+      → T (grants (verified (run l before)) n a) → T (grants (verified (run (run l before) vs)) n a)
+  giving-refuses-nothing-verified g = Demand3.giving-refuses-nothing-verified (run l before) (accepted-kept-run l ok before) vs g

@@ -1,0 +1,112 @@
+-- A withdrawing event leaves a lower phone. Assumes nothing.
+use Prim.Native.Nat.{ℕ}
+use mathlib.Core.Bool.{Bool, cond, _&&_, _||_}
+use mathlib.Core.Logic.{_≢_, inl, inr}
+use mathlib.Core.Path.{_≡_, refl, subst, sym, _∙_}
+use native.Mathlib.Omega.{arith}
+use native.Mathlib.Nat.{le-refl}
+use lib.Dec.{T, eqb, nltb→le, lit<}
+use Rattle.bits.specs.Bits.{digit, has-bit, clear-bit}
+use Rattle.bits.proofs.Laws.{digit-same, digit-other}
+use Rattle.records.specs.Phone.{Seen, Phone, no-certificate, no-executable, with-seen, with-clock, with-card, with-certificates, with-executables, marked, enabling, permitted}
+use Rattle.records.specs.declared.Certificate.{Certificate}
+use Rattle.records.specs.declared.Executable.{Executable}
+use Rattle.records.specs.declared.Event.{Event}
+use Rattle.rules.specs.Words.{any, at, change}
+use Rattle.rules.specs.ImageRules.{third-party-root}
+use Rattle.rules.specs.Forms.{with-kind, listed}
+use Rattle.rules.specs.Codes.{has-id, is-executable, time-back}
+use Rattle.rules.specs.Effects.{tick, card-out, delete-certificate, mark-invalid, enabled-by, message, delete-executable, withdraw, effect, settle}
+use Rattle.rules.specs.Demands.{withdrawing}
+use Rattle.rules.proofs.Tests.{is, si, isnt, by-test}
+use Rattle.rules.proofs.Changes.{at-cases}
+use Rattle.demands.proofs.ByKind.{by-kind}
+use Rattle.demands.proofs.After.{after}
+use Rattle.demands.proofs.Told.{Told}
+use Rattle.demands.proofs.Done.{after-cases}
+use Rattle.demands.proofs.Order.{Fewer, Below, Under, below-refl, under-refl, under-trans}
+use Rattle.demands.proofs.Good.{Wider}
+use Rattle.demands.proofs.Change.{Narrows, narrows-marked, narrows-refl, narrows-free, fewer-map, fewer-seen, under-trust, under-map}
+use Rattle.demands.proofs.Settle.{under-settle}
+
+-- ---- certificates
+
+-- some slots changed to what is good for less
+fewer-change : (p : Phone) (t : Certificate → Bool) (f : Certificate → Certificate) → ((c : Certificate) → Narrows (p .trust .seen) (p .trust .seen) (f c) c)
+    → Fewer (with-certificates (change t f (p .trust .certificates)) p .trust) (p .trust)
+fewer-change p t f h =
+    let s = p .trust .seen in
+    fewer-map s (p .trust .certificates) (at t f) (λ c. at-cases (Narrows s s) t f c (λ y. h c) (λ n. narrows-refl s c))
+
+marking-narrows : (s : Seen) (c : Certificate) → Narrows s s (marked 0 c) c
+marking-narrows s c = narrows-marked s c 0 (c .enabled) (c .mark) (c .enabled) (λ h. absurd (omega arith)) (λ h. h)
+
+-- "mode 0 disable all"
+disabled : (e : Event) (c : Certificate) → e .third ≡ 0 → enabled-by e c ≡ 0
+unfolding enabled-by
+disabled e c h = subst (λ m. _≡_ {A = ℕ} (cond (eqb m 1 || (eqb m 2 && any (eqb (c .id)) (listed e))) 1 0) 0) (sym h) refl
+
+disabling-narrows : (s : Seen) (e : Event) (c : Certificate) → e .third ≡ 0 → Narrows s s (enabling (enabled-by e c) c) c
+disabling-narrows s e c h =
+    narrows-marked s c (c .mark) (enabled-by e c) (c .mark) (c .enabled) (λ h. h) (λ one. absurd (omega (arith, disabled e c h)))
+
+-- ---- permissions
+
+clear-adds-none : (w k a : ℕ) → T (has-bit (clear-bit w k) a) → T (has-bit w a)
+clear-adds-none w k a h = by-test (eqb a k) (λ t. same (is a k t)) (λ t. si (digit w a) 1 (sym (digit-other w k 0 a (lit< tt) (isnt a k t)) ∙ one))
+  where
+    one : digit (clear-bit w k) a ≡ 1
+    one = is (digit (clear-bit w k) a) 1 h
+
+    same : a ≡ k → T (has-bit w a)
+    same e = absurd (omega (arith, one, subst (λ j. digit (clear-bit w k) j ≡ 0) (sym e) (digit-same w k 0 (lit< tt))))
+
+clearing-below : (k : ℕ) (x : Executable) → Below (permitted (clear-bit (x .permissions) k) x) x
+clearing-below k x = record { id = refl; signing = refl; domain = inr refl; permissions = clear-adds-none (x .permissions) k }
+
+-- some executables changed to lower ones
+under-change : (p : Phone) (t : Executable → Bool) (f : Executable → Executable) → ((x : Executable) → f x .id ≢ 0 → Below (f x) x) → Under (with-executables (change t f (p .executables)) p) p
+under-change p t f h = under-map p (at t f) (λ x. at-cases (λ lo hi. lo .id ≢ 0 → Below lo hi) t f x (λ y. h x) (λ n i. below-refl x))
+
+-- ---- each withdrawing kind, but for settling
+
+effect-under : (p : Phone) (e : Event) → Told p e → T (withdrawing p e) → Under (effect e p) p
+unfolding withdrawing effect tick card-out delete-certificate mark-invalid message delete-executable withdraw time-back
+effect-under p e d w =
+    by-kind (λ k. Told p (with-kind k e) → T (withdrawing p (with-kind k e)) → Under (effect (with-kind k e) p) p)
+    (record {
+      clock = λ d w. under-seen (with-clock (e .key) p .trust .seen) (record { clock = nltb→le (e .key) (p .trust .seen .clock) (d .forward); card = inl refl });
+      card-in = λ d w. absurd w;
+      card-out = λ d w. under-seen (with-card 0 p .trust .seen) (record { clock = le-refl _; card = inr refl });
+      power-up = λ d w. absurd w;
+      install-certificate = λ d w. absurd w;
+      delete-certificate = λ d w. under-trust _ p (fewer-change p (has-id (e .id)) (λ c. no-certificate) (narrows-free s)) refl refl;
+      mark-valid = λ d w. absurd w;
+      mark-invalid = λ d w. under-trust _ p (fewer-change p (has-id (e .id)) (marked 0) (marking-narrows s)) refl refl;
+      message = λ d w. under-trust _ p (disabled-fewer (is (e .third) 0 w)) refl refl;
+      install-executable = λ d w. absurd w;
+      delete-executable = λ d w. under-change p (is-executable (e .id)) (λ x. no-executable) (λ x n. absurd (n refl));
+      verify = λ d w. absurd w;
+      give = λ d w. absurd w;
+      withdraw = λ d w. under-change p (is-executable (e .id)) _ (λ x n. clearing-below (e .second) x);
+      request = λ d w. absurd w;
+    })
+    (e .kind) p e (d .formed) d w
+  where
+    s : Seen
+    s = p .trust .seen
+
+    under-seen : (q : Seen) → Wider q (p .trust .seen) → Under (with-seen q p) p
+    under-seen q w = under-trust (with-seen q p) p (fewer-seen q (p .trust .seen) (p .trust .certificates) w) refl refl
+
+    disable : Certificate → Certificate
+    disable c = enabling (enabled-by (with-kind 9 e) c) c
+
+    disabled-fewer : e .third ≡ 0 → Fewer (with-certificates (change third-party-root disable (p .trust .certificates)) p .trust) (p .trust)
+    disabled-fewer z = fewer-change p third-party-root disable (λ c. disabling-narrows (p .trust .seen) (with-kind 9 e) c z)
+
+pub withdrawing-under : (p : Phone) (e : Event) → T (withdrawing p e) → Under (after e p) p
+withdrawing-under p e w =
+    after-cases (λ q. Under q p) e p
+    (λ d. under-trans (settle (effect e p)) (effect e p) p (under-settle (effect e p)) (effect-under p e d w))
+    (λ r. under-refl p)

@@ -1,0 +1,78 @@
+-- What the demands say of runs of events, over the bytes of an image and of the events. Definitions only.
+use Prim.Native.Nat.{ℕ, _<_}
+use mathlib.Core.Bool.{Bool, _||_}
+use mathlib.Core.List.{List, [], _∷_, map, List·Memᴰ}
+use mathlib.Core.Logic.{_≢_, _⊎_}
+use mathlib.Core.Path.{_≡_}
+use lib.Dec.{T, eqb}
+use lib.ListN.{length}
+use Rattle.bits.specs.Bits.{has-bit}
+use Rattle.records.specs.Layout.{row-byte, event-read, event-bytes}
+use Rattle.records.specs.Phone.{Phone, row-at, decode}
+use Rattle.records.specs.declared.Certificate.{Certificate}
+use Rattle.records.specs.declared.Event.{Event}
+use Rattle.rules.specs.Words.{Check, _⇒_}
+use Rattle.rules.specs.Chains.{present, most-links}
+use Rattle.rules.specs.Explicit.{Chain-within}
+use Rattle.rules.specs.ImageRules.{valid-in}
+use Rattle.rules.specs.Codes.{executable-named, executable-known}
+use Rattle.rules.specs.Step.{step, run}
+use Rattle.rules.specs.Demands.{withdrawing, giving, verify-event}
+
+-- a row of the table of codes with this number applies
+pub data Applies (n : ℕ) : List Check → Type 0 where
+  here : {b : Bool} {l : List Check} → T b → Applies n ((b ⇒ n) ∷ l)
+  later : {c : Check} {l : List Check} → Applies n l → Applies n (c ∷ l)
+
+-- "A request changes nothing", so it may stand in either run
+abbrev pub is-request : Event → Bool
+is-request e = eqb (e .kind) 15
+
+-- every event passes the test in the state that it meets; refused ones may be among them
+abbrev pub Each-in-turn : (Phone → Event → Bool) → List ℕ → List (List ℕ) → Type 0
+Each-in-turn f l [] = Unit {0}
+Each-in-turn f l (v ∷ vs) = T (f (decode l) (event-read v 0) || is-request (event-read v 0)) × Each-in-turn f (step l v .image) vs
+
+-- "any run of withdrawing events"
+abbrev pub Withdrawing-run : List ℕ → List (List ℕ) → Type 0
+Withdrawing-run = Each-in-turn withdrawing
+
+-- "any run of giving events"
+abbrev pub Giving-run : List ℕ → List (List ℕ) → Type 0
+Giving-run = Each-in-turn giving
+
+-- "where every application is verified": a verify event for each executable slot, in order
+unfoldable pub verified : List ℕ → List ℕ
+verified l = run l (map (λ x. event-bytes (verify-event (x .id))) (decode l .executables))
+
+-- ---- one event on an image
+
+-- what its bytes say, the signing key of the executable that it names, and the phone after it
+abbrev pub event-of : List ℕ → Event
+event-of v = event-read v 0
+
+abbrev pub key-named : List ℕ → List ℕ → ℕ
+key-named l v = executable-named (decode l) (event-of v .id) .signing
+
+abbrev pub phone-after : List ℕ → List ℕ → Phone
+phone-after l v = decode (step l v .image)
+
+-- ---- operator roots
+
+-- a certificate of the phone that is present and a valid-marked operator root
+pub record Valid-operator (p : Phone) (c : Certificate) : Type 0 where
+  pub stored : List·Memᴰ c (p .trust .certificates)
+  pub present : T (present (p .trust .seen) c)
+  pub valid : T (valid-in 1 (p .trust .seen .clock) c)
+
+-- ---- a grant
+
+-- "table byte 2 grants; 1 grants exactly with a permission": the byte for the action a and the domain of executable n, which is 0 or one that it chains to
+pub record Granted (p : Phone) (n a : ℕ) : Type 0 where
+  pub number : n ≢ 0
+  pub known : T (executable-known p n)
+  pub action : a < length (p .table)
+  pub byte : (row-byte (row-at p a) (executable-named p n .domain) ≡ 2)
+      ⊎ ((row-byte (row-at p a) (executable-named p n .domain) ≡ 1) × T (has-bit (executable-named p n .permissions) a))
+  pub chain : executable-named p n .domain ≢ 0
+      → (executable-named p n .signing ≢ 0) × Chain-within most-links (p .trust) (executable-named p n .domain) (executable-named p n .signing)

@@ -1,0 +1,65 @@
+use borrow.Author.Needs.{needs}
+use native.Mathlib.Omega.{arith}
+use Prim.Native.Nat.{_≤_, _-_}
+use lib.ListN.{length, drop}
+use mathlib.Core.Path.{_≡_, refl}
+use Rattle.records.specs.Phone.{decode, no-executable}
+use Rattle.rules.specs.Words.{all}
+use Rattle.rules.proofs.Loops.{all-stops, all-goes-on, all-passes}
+use Rattle.rules.specs.ImageRules.{i8}
+use Rattle.rules.specs.Chains.{chains-to}
+use mathlib.Core.Bool.{_||_}
+use lib.Dec.{eqb}
+use Rattle.opening.proofs.all_chained.Statement.{statement}
+use Rattle.opening.proofs.all_chained.Tie as tie
+
+abbrev Inv-loop : tie.InvT-loop
+Inv-loop s table slots i₀ i = (i ≤ slots) × (slots ≡ length (decode s .executables)) × (all (λ x. eqb (x .domain) 0 || chains-to (decode s .trust) (x .signing) (x .domain)) (drop i (decode s .executables)) ≡ all (λ x. eqb (x .domain) 0 || chains-to (decode s .trust) (x .signing) (x .domain)) (decode s .executables))
+
+abbrev μ-loop : tie.MeasureT-loop
+μ-loop s table slots i₀ i = slots - i
+
+executable-slots-requires : tie.Need-executable-slots-requires Inv-loop μ-loop
+executable-slots-requires c κs = search needs
+
+loop-holds : tie.Need-loop-holds Inv-loop μ-loop
+loop-holds c = (search needs, search needs, refl)
+
+executable-requires : tie.Need-executable-requires Inv-loop μ-loop
+executable-requires c κs = search needs
+
+is-chained-requires : tie.Need-is-chained-requires Inv-loop μ-loop
+is-chained-requires c κs = search needs
+
+returns : tie.Need-returns Inv-loop μ-loop
+unfolding i8
+returns c = all-stops no-executable _ (c .before .before .before .before .loop .i) _ _ (c .before .before .before .before .loop .inv .2) (omega arith) (c .before .before .executable .ensures) (c .before .is-chained .ensures) (c .if1 .taken)
+
+add-i : tie.Need-add-i Inv-loop μ-loop
+add-i c = search needs
+
+loop-less : tie.Need-loop-less Inv-loop μ-loop
+loop-less c = search needs
+
+loop-again : tie.Need-loop-again Inv-loop μ-loop
+loop-again c = (search needs, search needs, all-goes-on no-executable _ (c .before .before .before .before .loop .i) _ _ (c .before .before .before .before .loop .inv .2) (omega arith) (c .before .before .executable .ensures) (c .before .is-chained .ensures) (c .if1 .left))
+
+returns-2 : tie.Need-returns-2 Inv-loop μ-loop
+unfolding i8
+returns-2 c = all-passes no-executable _ (c .before .loop .i) _ _ (c .before .loop .inv .2) (omega arith)
+
+pub all-chained-spec : {M : Type 1} → statement M
+all-chained-spec =
+    tie.close
+    (tie.spec
+    Inv-loop
+    μ-loop
+    executable-slots-requires
+    loop-holds
+    executable-requires
+    is-chained-requires
+    returns
+    add-i
+    loop-less
+    loop-again
+    returns-2)
