@@ -21,7 +21,7 @@ use Rattle.rules.specs.Step.{refused, done, Outcome, step, run}
 use Rattle.rules.proofs.Tests.{by-test, is, si, isnt, not-elim, first-out}
 use Rattle.rules.proofs.Accepts.{T-true, accepted-out, accepted-in}
 use Rattle.demands.proofs.After.{after, after-all}
-use Rattle.demands.proofs.Shape.{shape-changed, sized-changed, mode-changed}
+use Rattle.demands.proofs.Shape.{shape-changed, sized-shape, mode-changed}
 use Rattle.demands.proofs.Kept.{accepted-changed}
 use Rattle.demands.proofs.Header.{fitting, length-framed, framed-fitting}
 
@@ -91,7 +91,7 @@ accepted-step l v a = step-cases (λ o. accepted (o .image) ≡ true) l v (λ z.
         let ok = accepted-out l a in
         let f = fitting l (ok .0) in
         accepted-in (encode (changed e p))
-        (framed-fitting (changed e p) (record { sized = sized-changed e p (f .sized); mode = mode-changed e p (f .mode) (si (code-of p e) 0 z) }))
+        (framed-fitting (changed e p) (record { sized = sized-shape (shape-changed e p) (f .sized); mode = mode-changed e p (f .mode) (si (code-of p e) 0 z) }))
         (rw (decode-encode (changed e p)) (accepted-changed p e (ok .1) (si (code-of p e) 0 z)))
 
 -- the phone after an event of 24 bytes

@@ -40,7 +40,7 @@ find-map {A} t f d (x ∷ l) h k = rw (h x) (go (t x) k (find-map t f d l h))
 at-yes : {A : Type 0} (t : A → Bool) (f : A → A) (x : A) → T (t x) → at t f x ≡ f x
 at-yes t f x h = at-cases (λ lo hi. lo ≡ f hi) t f x (λ k. refl) (λ n. absurd (T-not (t x) n h))
 
-named-verified : (p : Phone) (n : ℕ) → T (executable-known p n) → executable-named (one-verified n p) n ≡ verdict (p .trust) (executable-named p n)
+pub named-verified : (p : Phone) (n : ℕ) → T (executable-known p n) → executable-named (one-verified n p) n ≡ verdict (p .trust) (executable-named p n)
 unfolding executable-named executable-known
 named-verified p n k =
     let f = at (is-executable n) (verdict (p .trust)) in

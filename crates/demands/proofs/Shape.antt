@@ -131,7 +131,7 @@ all-shapely =
 
 -- ---- and so does an event
 
-shape-effect : Shapely effect
+pub shape-effect : (e : Event) (p : Phone) → Shape (effect e p) p
 unfolding effect
 shape-effect e p = shapely-at effects request all-shapely shape-request (e .kind) e p
 
@@ -146,9 +146,8 @@ shape-changed e p =
       executables = length-map (effect e p .executables) _ ∙ s .executables;
     }
 
-pub sized-changed : (e : Event) (p : Phone) → Sized p → Sized (changed e p)
-sized-changed e p z =
-    let s = shape-changed e p in
+pub sized-shape : {q p : Phone} → Shape q p → Sized p → Sized q
+sized-shape s z =
     record {
       certificates = rw (s .certificates) (z .certificates);
       cards = rw (s .cards) (z .cards);

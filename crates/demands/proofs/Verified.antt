@@ -113,7 +113,7 @@ verify-done p n nz k =
       permitted = tt;
     })
 
-verify-effect : (p : Phone) (e : Event) → e .kind ≡ 12 → effect e p ≡ one-verified (e .id) p
+pub verify-effect : (p : Phone) (e : Event) → e .kind ≡ 12 → effect e p ≡ one-verified (e .id) p
 unfolding effect verify chain-of
 verify-effect p e h = subst (λ k. effect (with-kind k e) p ≡ one-verified (e .id) p) (sym h) refl
 

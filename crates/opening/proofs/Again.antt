@@ -6,8 +6,8 @@ use lib.Dec.{eqb}
 use borrow.Author.Tests.{eq-eqb, ne-eqb}
 
 module _ (w : Bool) (m n : ℕ) (e : m ≡ n) where
-  pub zero-never : m ≡ 0 → false ≡ (not (eqb n 0) && w)
-  zero-never z = rw (eq-eqb n 0 (sym e ∙ z))
+  pub zero-not-again : m ≡ 0 → false ≡ (not (eqb n 0) && w)
+  zero-not-again z = rw (eq-eqb n 0 (sym e ∙ z))
 
-  pub other-where : {b : Bool} → (m ≡ 0 → ⊥) → b ≡ w → b ≡ (not (eqb n 0) && w)
-  other-where nz q = rw (ne-eqb n 0 (λ z. nz (e ∙ z))) q
+  pub again-where : {b : Bool} → (m ≡ 0 → ⊥) → b ≡ w → b ≡ (not (eqb n 0) && w)
+  again-where nz q = rw (ne-eqb n 0 (λ z. nz (e ∙ z))) q

@@ -8,7 +8,7 @@ use borrow.Author.Tests.{eq-eqb, ne-eqb}
 use Rattle.records.specs.Phone.{decode, no-card, card-at}
 use Rattle.rules.specs.Words.{any}
 use Rattle.rules.proofs.Loops.{any-stops, any-goes-on, any-fails}
-use Rattle.opening.proofs.Again.{zero-never, other-where}
+use Rattle.opening.proofs.Again.{zero-not-again, again-where}
 use Rattle.opening.proofs.number_again.Statement.{statement}
 use Rattle.opening.proofs.number_again.Tie as tie
 
@@ -22,7 +22,7 @@ card-requires : tie.Need-card-requires Inv-loop μ-loop
 card-requires c κs = search needs
 
 returns : tie.Need-returns Inv-loop μ-loop
-returns c = zero-never _ _ _ (ap (λ x. x .number) (c .before .card .ensures)) (c .if1 .taken)
+returns c = zero-not-again _ _ _ (ap (λ x. x .number) (c .before .card .ensures)) (c .if1 .taken)
 
 card-count-requires : tie.Need-card-count-requires Inv-loop μ-loop
 card-count-requires c κs = search needs
@@ -37,7 +37,7 @@ card-requires-2 : tie.Need-card-requires-2 Inv-loop μ-loop
 card-requires-2 c κs = search needs
 
 returns-2 : tie.Need-returns-2 Inv-loop μ-loop
-returns-2 c = other-where _ _ _ (ap (λ x. x .number) (c .before .before .before .before .before .before .before .card .ensures)) (c .before .before .before .before .before .before .if1 .left) (any-stops no-card _ (c .before .before .before .before .loop .j) _ _ (c .before .before .before .before .loop .inv .2) (omega arith) (c .before .before .card2 .ensures) (eq-eqb _ _ (sym (ap (λ x. x .number) (c .before .before .before .before .before .before .before .card .ensures)) ∙ c .if2 .taken)))
+returns-2 c = again-where _ _ _ (ap (λ x. x .number) (c .before .before .before .before .before .before .before .card .ensures)) (c .before .before .before .before .before .before .if1 .left) (any-stops no-card _ (c .before .before .before .before .loop .j) _ _ (c .before .before .before .before .loop .inv .2) (omega arith) (c .before .before .card2 .ensures) (eq-eqb _ _ (sym (ap (λ x. x .number) (c .before .before .before .before .before .before .before .card .ensures)) ∙ c .if2 .taken)))
 
 add-j-2 : tie.Need-add-j-2 Inv-loop μ-loop
 add-j-2 c = search needs
@@ -49,7 +49,7 @@ loop-again : tie.Need-loop-again Inv-loop μ-loop
 loop-again c = (search needs, search needs, any-goes-on no-card _ (c .before .before .before .before .loop .j) _ _ (c .before .before .before .before .loop .inv .2) (omega arith) (c .before .before .card2 .ensures) (ne-eqb _ _ (λ e. c .if2 .left ((ap (λ x. x .number) (c .before .before .before .before .before .before .before .card .ensures)) ∙ e))))
 
 returns-3 : tie.Need-returns-3 Inv-loop μ-loop
-returns-3 c = other-where _ _ _ (ap (λ x. x .number) (c .before .before .before .before .card .ensures)) (c .before .before .before .if1 .left) (any-fails no-card _ (c .before .loop .j) _ _ (c .before .loop .inv .2) (omega arith))
+returns-3 c = again-where _ _ _ (ap (λ x. x .number) (c .before .before .before .before .card .ensures)) (c .before .before .before .if1 .left) (any-fails no-card _ (c .before .loop .j) _ _ (c .before .loop .inv .2) (omega arith))
 
 pub number-again-spec : {M : Type 1} → statement M
 number-again-spec =

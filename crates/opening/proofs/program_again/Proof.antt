@@ -8,7 +8,7 @@ use borrow.Author.Tests.{eq-eqb, ne-eqb}
 use Rattle.records.specs.Phone.{decode, no-executable, executable-at}
 use Rattle.rules.specs.Words.{any}
 use Rattle.rules.proofs.Loops.{any-stops, any-goes-on, any-fails}
-use Rattle.opening.proofs.Again.{zero-never, other-where}
+use Rattle.opening.proofs.Again.{zero-not-again, again-where}
 use Rattle.opening.proofs.program_again.Statement.{statement}
 use Rattle.opening.proofs.program_again.Tie as tie
 
@@ -22,7 +22,7 @@ executable-requires : tie.Need-executable-requires Inv-loop μ-loop
 executable-requires c κs = search needs
 
 returns : tie.Need-returns Inv-loop μ-loop
-returns c = zero-never _ _ _ (ap (λ x. x .id) (c .before .executable .ensures)) (c .if1 .taken)
+returns c = zero-not-again _ _ _ (ap (λ x. x .id) (c .before .executable .ensures)) (c .if1 .taken)
 
 executable-slots-requires : tie.Need-executable-slots-requires Inv-loop μ-loop
 executable-slots-requires c κs = search needs
@@ -37,7 +37,7 @@ executable-requires-2 : tie.Need-executable-requires-2 Inv-loop μ-loop
 executable-requires-2 c κs = search needs
 
 returns-2 : tie.Need-returns-2 Inv-loop μ-loop
-returns-2 c = other-where _ _ _ (ap (λ x. x .id) (c .before .before .before .before .before .before .before .executable .ensures)) (c .before .before .before .before .before .before .if1 .left) (any-stops no-executable _ (c .before .before .before .before .loop .j) _ _ (c .before .before .before .before .loop .inv .2) (omega arith) (c .before .before .executable2 .ensures) (eq-eqb _ _ (sym (ap (λ x. x .id) (c .before .before .before .before .before .before .before .executable .ensures)) ∙ c .if2 .taken)))
+returns-2 c = again-where _ _ _ (ap (λ x. x .id) (c .before .before .before .before .before .before .before .executable .ensures)) (c .before .before .before .before .before .before .if1 .left) (any-stops no-executable _ (c .before .before .before .before .loop .j) _ _ (c .before .before .before .before .loop .inv .2) (omega arith) (c .before .before .executable2 .ensures) (eq-eqb _ _ (sym (ap (λ x. x .id) (c .before .before .before .before .before .before .before .executable .ensures)) ∙ c .if2 .taken)))
 
 add-j-2 : tie.Need-add-j-2 Inv-loop μ-loop
 add-j-2 c = search needs
@@ -49,7 +49,7 @@ loop-again : tie.Need-loop-again Inv-loop μ-loop
 loop-again c = (search needs, search needs, any-goes-on no-executable _ (c .before .before .before .before .loop .j) _ _ (c .before .before .before .before .loop .inv .2) (omega arith) (c .before .before .executable2 .ensures) (ne-eqb _ _ (λ e. c .if2 .left ((ap (λ x. x .id) (c .before .before .before .before .before .before .before .executable .ensures)) ∙ e))))
 
 returns-3 : tie.Need-returns-3 Inv-loop μ-loop
-returns-3 c = other-where _ _ _ (ap (λ x. x .id) (c .before .before .before .before .executable .ensures)) (c .before .before .before .if1 .left) (any-fails no-executable _ (c .before .loop .j) _ _ (c .before .loop .inv .2) (omega arith))
+returns-3 c = again-where _ _ _ (ap (λ x. x .id) (c .before .before .before .before .executable .ensures)) (c .before .before .before .if1 .left) (any-fails no-executable _ (c .before .loop .j) _ _ (c .before .loop .inv .2) (omega arith))
 
 pub program-again-spec : {M : Type 1} → statement M
 program-again-spec =

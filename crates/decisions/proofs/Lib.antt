@@ -1,0 +1,9 @@
+pub mod Finite
+pub mod Rows
+pub mod Codes
+pub mod Plans
+pub mod Named
+pub mod Forms
+pub mod Listed
+pub mod Rivals
+pub mod Owners

@@ -1,0 +1,58 @@
+-- The numbers that a configuration message lists, and those that it leaves 0. Assumes nothing.
+use Prim.Native.Nat.{ℕ, _+_, _≤_, _<_, zero-le}
+use mathlib.Core.Bool.{Bool, true, false}
+use mathlib.Core.List.{List, _∷_}
+use mathlib.Core.Logic.{_≢_}
+use mathlib.Core.Path.{_≡_, sym, ap, _∙_}
+use native.Mathlib.Numerals.{add-one}
+use native.Mathlib.Omega.{arith}
+use borrow.Author.Tests.{ne-eqb}
+use lib.Dec.{eqb}
+use lib.ListN.{length, getD, drop, drop-of-length-le, List·getD-eq-default}
+use lib.Seq.{length-take-le, getD-take, drop-cons}
+use Rattle.records.specs.declared.Event.{Event}
+use Rattle.rules.specs.Words.{all-zero}
+use Rattle.rules.specs.Forms.{eight, listed}
+
+past-four : (n i : ℕ) → n ≤ i → i ≢ n → i ≢ n + 1 → i ≢ n + 2 → i ≢ n + 3 → n + 4 ≤ i
+past-four n i h a b c d = omega arith
+
+module _ (e : Event) where
+  pub past-eight : (i : ℕ) → i ≢ 0 → i ≢ 1 → i ≢ 2 → i ≢ 3 → i ≢ 4 → i ≢ 5 → i ≢ 6 → i ≢ 7 → 0 ≡ getD (eight e) i 0
+  past-eight i n₀ n₁ n₂ n₃ n₄ n₅ n₆ n₇ =
+      sym (List·getD-eq-default (eight e) 0 {n = i} (past-four 4 i (past-four 0 i zero-le n₀ n₁ n₂ n₃) n₄ n₅ n₆ n₇))
+
+  pub listed-length : e .fourth ≤ 8 → length (listed e) ≡ e .fourth
+  listed-length h = length-take-le (e .fourth) (eight e) h
+
+  pub listed-at : {i n : ℕ} → i < e .fourth → n ≡ getD (eight e) i 0 → n ≡ getD (listed e) i 0
+  listed-at {i} h q = q ∙ sym (getD-take (e .fourth) (eight e) i 0 h)
+
+sum-first : (n k : ℕ) → n ≢ 0 → eqb (n + k) 0 ≡ false
+sum-first n k h = ne-eqb (n + k) 0 (λ z. h (omega arith))
+
+sum-rest : (n k : ℕ) → n ≡ 0 → eqb (n + k) 0 ≡ eqb k 0
+sum-rest n k h = ap (λ m. eqb m 0) (let q : n + k ≡ k = omega arith in q)
+
+zero-first : (n : ℕ) (l : List ℕ) → n ≢ 0 → all-zero (n ∷ l) ≡ false
+unfolding all-zero
+zero-first n l h = sum-first n _ h
+
+zero-rest : (n : ℕ) (l : List ℕ) → n ≡ 0 → all-zero (n ∷ l) ≡ all-zero l
+unfolding all-zero
+zero-rest n l h = sum-rest n _ h
+
+-- what a loop keeps of `all-zero` of what is left, from number i on, and what it answers: w is what is asked
+module _ (l : List ℕ) (i : ℕ) (w : Bool) (inv : all-zero (drop i l) ≡ w) where
+  left : i < length l → drop i l ≡ getD l i 0 ∷ drop (i + 1) l
+  left h = rw (add-one, drop-cons l i 0)
+
+  pub zero-stops : i < length l → getD l i 0 ≢ 0 → false ≡ w
+  zero-stops h n = sym (ap all-zero (left h) ∙ zero-first (getD l i 0) (drop (i + 1) l) n) ∙ inv
+
+  pub zero-goes-on : i < length l → getD l i 0 ≡ 0 → all-zero (drop (i + 1) l) ≡ w
+  zero-goes-on h n = sym (ap all-zero (left h) ∙ zero-rest (getD l i 0) (drop (i + 1) l) n) ∙ inv
+
+  pub zero-passes : length l ≤ i → true ≡ w
+  unfolding all-zero
+  zero-passes h = sym (ap all-zero (drop-of-length-le l h)) ∙ inv

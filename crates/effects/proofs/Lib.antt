@@ -1,0 +1,5 @@
+pub mod Parts
+pub mod Sweeps
+pub mod Places
+pub mod Fields
+pub mod Marking

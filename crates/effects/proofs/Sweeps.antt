@@ -1,0 +1,89 @@
+-- A loop that writes f of each slot in its place: what it has done after i of them, in a list and in an image. Assumes nothing.
+use Prim.Native.Nat.{ℕ, zero, suc, _+_, _≤_, _<_}
+use mathlib.Core.List.{List, [], _∷_, map}
+use mathlib.Core.Path.{_≡_, refl, sym, ap, _∙_, subst}
+use native.Mathlib.Nat.{le-of-suc-le-suc, not-suc-le-zero}
+use native.Mathlib.Numerals.{add-one}
+use native.Mathlib.Omega.{arith}
+use lib.ListN.{length, getD, set, length-set}
+use Rattle.records.specs.Phone.{Phone, decode, encode}
+use Rattle.records.specs.Frame.{Framed}
+use Rattle.effects.specs.Sweeps.{swept}
+use Rattle.effects.proofs.Parts.{Part, says, framed-as}
+
+-- ---- in a list
+
+module _ {A : Type 0} (f : A → A) where
+  pub swept-all : (l : List A) → swept f (length l) l ≡ map f l
+  swept-all [] = refl
+  swept-all (x ∷ l) = ap (λ r. f x ∷ r) (swept-all l)
+
+  -- slot i is still as it was
+  pub swept-here : (d : A) (l : List A) (i : ℕ) → getD (swept f i l) i d ≡ getD l i d
+  swept-here d l zero = refl
+  swept-here d [] (suc i) = refl
+  swept-here d (x ∷ l) (suc i) = swept-here d l i
+
+  swept-suc : (d : A) (l : List A) (i : ℕ) → i < length l → set (swept f i l) i (f (getD l i d)) ≡ swept f (suc i) l
+  swept-suc d [] i h = absurd (not-suc-le-zero h)
+  swept-suc d (x ∷ l) zero h = refl
+  swept-suc d (x ∷ l) (suc i) h = ap (λ r. f x ∷ r) (swept-suc d l i (le-of-suc-le-suc h))
+
+  pub swept-next : (d : A) (l : List A) (i : ℕ) → i < length l → set (swept f i l) i (f (getD l i d)) ≡ swept f (i + 1) l
+  swept-next d l i h = swept-suc d l i h ∙ ap (λ n. swept f n l) (sym (add-one i))
+
+-- ---- in an image
+
+-- s is the image s₀ after i of its slots, with what the next turn asks
+pub record Sweeping {A : Type 0} (k : Part A) (f : A → A) (s₀ s : List ℕ) (slots i : ℕ) : Type 0 where
+  pub below : i ≤ slots
+  pub every-slot : slots ≡ length (k .slots (decode s₀))
+  pub as-many : slots ≡ length (k .slots (decode s))
+  pub same-length : length s ≡ length s₀
+  pub framed : Framed s
+  pub phone : decode s ≡ k .put (swept f i (k .slots (decode s₀))) (decode s₀)
+
+module _ {A : Type 0} (k : Part A) (f : A → A) where
+  pub sweep-starts : {s : List ℕ} {slots : ℕ} → Framed s → slots ≡ length (k .slots (decode s)) → Sweeping k f s s slots 0
+  sweep-starts {s} h e =
+      record { below = omega arith; every-slot = e; as-many = e; same-length = refl; framed = h; phone = sym (k .put-same (decode s)) }
+
+  -- slot i of the phone p, after those before it
+  next-phone : (p : Phone) (i : ℕ) → i < length (k .slots p)
+      → let q = k .put (swept f i (k .slots p)) p in
+      k .put (set (k .slots q) i (f (getD (k .slots q) i (k .none)))) q ≡ k .put (swept f (i + 1) (k .slots p)) p
+  next-phone p i h =
+      let d = k .none in
+      let w = swept f i (k .slots p) in
+      ap (λ l. k .put (set l i (f (getD l i d))) (k .put w p)) (k .put-slots w p)
+      ∙ k .put-put w (set w i (f (getD w i d))) p
+      ∙ ap (λ x. k .put (set w i (f x)) p) (swept-here f d (k .slots p) i)
+      ∙ ap (λ l. k .put l p) (swept-next f d (k .slots p) i h)
+
+  pub sweep-goes-on : {s₀ s s′ : List ℕ} {slots i : ℕ} {y : A} → Sweeping k f s₀ s slots i → i < slots → length s′ ≡ length s
+      → y ≡ f (getD (k .slots (decode s)) i (k .none)) → s′ ≡ encode (k .put (set (k .slots (decode s)) i y) (decode s))
+      → Sweeping k f s₀ s′ slots (i + 1)
+  sweep-goes-on {s₀} {s} {s′} {slots} {i} {y} z h m e w =
+      let q = k .put (set (k .slots (decode s)) i y) (decode s) in
+      let said : decode s′ ≡ q = says q w in
+      let many : length (set (k .slots (decode s)) i y) ≡ length (k .slots (decode s)) = length-set (k .slots (decode s)) i y in
+      record {
+        below = omega arith;
+        every-slot = z .every-slot;
+        as-many = z .as-many ∙ sym many ∙ sym (ap length (k .put-slots (set (k .slots (decode s)) i y) (decode s))) ∙ ap (λ p. length (k .slots p)) (sym said);
+        same-length = m ∙ z .same-length;
+        framed = framed-as q w (k .put-sized (set (k .slots (decode s)) i y) (decode s) many (z .framed .sized));
+        phone =
+            said ∙ ap (λ x. k .put (set (k .slots (decode s)) i x) (decode s)) e
+            ∙ ap (λ p. k .put (set (k .slots p) i (f (getD (k .slots p) i (k .none)))) p) (z .phone)
+            ∙ next-phone (decode s₀) i (subst (λ n. i < n) (z .every-slot) h);
+      }
+
+  pub sweep-said : {s₀ s : List ℕ} {slots i : ℕ} → Sweeping k f s₀ s slots i → slots ≤ i → decode s ≡ k .put (map f (k .slots (decode s₀))) (decode s₀)
+  sweep-said {s₀} {s} {slots} {i} z h =
+      let all : i ≡ length (k .slots (decode s₀)) = omega arith in
+      z .phone ∙ ap (λ n. k .put (swept f n (k .slots (decode s₀))) (decode s₀)) all
+      ∙ ap (λ l. k .put l (decode s₀)) (swept-all f (k .slots (decode s₀)))
+
+  pub sweep-ends : {s₀ s : List ℕ} {slots i : ℕ} → Sweeping k f s₀ s slots i → slots ≤ i → s ≡ encode (k .put (map f (k .slots (decode s₀))) (decode s₀))
+  sweep-ends z h = z .framed .shaped ∙ ap encode (sweep-said z h)

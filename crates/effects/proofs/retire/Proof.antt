@@ -1,0 +1,67 @@
+use Prim.Native.Nat.{_-_}
+use native.Mathlib.Omega.{arith}
+use borrow.Author.Needs.{needs}
+use Rattle.effects.specs.Sweeps.{retire}
+use Rattle.effects.proofs.Parts.{certificates}
+use Rattle.effects.proofs.Sweeps.{Sweeping, sweep-starts, sweep-goes-on, sweep-ends}
+use Rattle.effects.proofs.Fields.{retire-written}
+use Rattle.effects.proofs.retire.Statement.{statement}
+use Rattle.effects.proofs.retire.Tie as tie
+
+abbrev Inv-loop : tie.InvT-loop
+Inv-loop s₀ every operator slots i₀ s i = Sweeping certificates (retire every operator) s₀ s slots i
+
+abbrev μ-loop : tie.MeasureT-loop
+μ-loop s₀ every operator slots i₀ s i = slots - i
+
+certificate-slots-requires : tie.Need-certificate-slots-requires Inv-loop μ-loop
+certificate-slots-requires c κs = search needs
+
+loop-holds : tie.Need-loop-holds Inv-loop μ-loop
+loop-holds c = sweep-starts certificates _ (c .before .before .before .pre) (c .certificate-slots .ensures .0)
+
+certificate-requires : tie.Need-certificate-requires Inv-loop μ-loop
+certificate-requires c κs = search needs
+
+retired-mark-requires : tie.Need-retired-mark-requires Inv-loop μ-loop
+retired-mark-requires c κs = search needs
+
+set-mark-requires : tie.Need-set-mark-requires Inv-loop μ-loop
+set-mark-requires c κs = search needs
+
+add-i : tie.Need-add-i Inv-loop μ-loop
+add-i c = search needs
+
+loop-less : tie.Need-loop-less Inv-loop μ-loop
+loop-less c = search needs
+
+loop-again : tie.Need-loop-again Inv-loop μ-loop
+loop-again c =
+    let z = c .before .before .before .before .before .before .before .before .before .before .before .before in
+    sweep-goes-on certificates _ (c .before .before .before .before .before .before .before .before .loop .inv) (omega arith) (search needs)
+    (retire-written (z .args .every) (z .args .operator) (c .before .before .before .before .retired-mark .ensures) (c .before .before .before .before .before .certificate .ensures))
+    (c .before .before .set-mark .ensures)
+
+same-length : tie.Need-same-length Inv-loop μ-loop
+same-length c = search needs
+
+returns : tie.Need-returns Inv-loop μ-loop
+returns c =
+    sweep-ends certificates _ (c .before .loop .inv) (omega arith)
+
+pub retire-spec : {M : Type 1} → statement M
+retire-spec =
+    tie.close
+    (tie.spec
+    Inv-loop
+    μ-loop
+    certificate-slots-requires
+    loop-holds
+    certificate-requires
+    retired-mark-requires
+    set-mark-requires
+    add-i
+    loop-less
+    loop-again
+    same-length
+    returns)
