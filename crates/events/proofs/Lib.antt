@@ -1,0 +1,4 @@
+pub mod Still
+pub mod Tells
+pub mod Handles
+pub mod Steps

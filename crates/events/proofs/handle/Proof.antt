@@ -1,0 +1,205 @@
+use Rattle.events.proofs.Steps.{of-its-kind, no-such-kind, no-such-actor}
+use borrow.Author.Needs.{needs}
+use Rattle.events.proofs.handle.Statement.{statement}
+use Rattle.events.proofs.handle.Tie as tie
+
+refused-requires : tie.Need-refused-requires
+refused-requires c κs = search needs
+
+returns : tie.Need-returns
+returns c = no-such-actor _ (c .before .before .before .before .args .e) (c .before .if1 .taken) _ (c .refused .ensures)
+
+clock-requires : tie.Need-clock-requires
+clock-requires c κs = search needs
+
+card-in-requires : tie.Need-card-in-requires
+card-in-requires c κs = search needs
+
+card-out-requires : tie.Need-card-out-requires
+card-out-requires c κs = search needs
+
+power-up-requires : tie.Need-power-up-requires
+power-up-requires c κs = search needs
+
+install-certificate-requires : tie.Need-install-certificate-requires
+install-certificate-requires c κs = search needs
+
+delete-certificate-requires : tie.Need-delete-certificate-requires
+delete-certificate-requires c κs = search needs
+
+mark-valid-requires : tie.Need-mark-valid-requires
+mark-valid-requires c κs = search needs
+
+mark-invalid-requires : tie.Need-mark-invalid-requires
+mark-invalid-requires c κs = search needs
+
+message-requires : tie.Need-message-requires
+message-requires c κs = search needs
+
+install-executable-requires : tie.Need-install-executable-requires
+install-executable-requires c κs = search needs
+
+delete-executable-requires : tie.Need-delete-executable-requires
+delete-executable-requires c κs = search needs
+
+verify-requires : tie.Need-verify-requires
+verify-requires c κs = search needs
+
+give-requires : tie.Need-give-requires
+give-requires c κs = search needs
+
+withdraw-requires : tie.Need-withdraw-requires
+withdraw-requires c κs = search needs
+
+request-requires : tie.Need-request-requires
+request-requires c κs = search needs
+
+refused-requires-2 : tie.Need-refused-requires-2
+refused-requires-2 c κs = search needs
+
+same-length : tie.Need-same-length
+same-length c = search needs
+
+returns-2 : tie.Need-returns-2
+returns-2 c = of-its-kind _ (c .before .before .before .before .before .before .before .before .args .e) 1 _ _ (c .before .before .before .before .match .keys1) (c .before .before .clock .ensures)
+
+same-length-2 : tie.Need-same-length-2
+same-length-2 c = search needs
+
+returns-3 : tie.Need-returns-3
+returns-3 c = of-its-kind _ (c .before .before .before .before .before .before .before .before .args .e) 2 _ _ (c .before .before .before .before .match .keys2) (c .before .before .card-in .ensures)
+
+same-length-3 : tie.Need-same-length-3
+same-length-3 c = search needs
+
+returns-4 : tie.Need-returns-4
+returns-4 c = of-its-kind _ (c .before .before .before .before .before .before .before .before .args .e) 3 _ _ (c .before .before .before .before .match .keys3) (c .before .before .card-out .ensures)
+
+same-length-4 : tie.Need-same-length-4
+same-length-4 c = search needs
+
+returns-5 : tie.Need-returns-5
+returns-5 c = of-its-kind _ (c .before .before .before .before .before .before .before .before .args .e) 4 _ _ (c .before .before .before .before .match .keys4) (c .before .before .power-up .ensures)
+
+same-length-5 : tie.Need-same-length-5
+same-length-5 c = search needs
+
+returns-6 : tie.Need-returns-6
+returns-6 c = of-its-kind _ (c .before .before .before .before .before .before .before .before .args .e) 5 _ _ (c .before .before .before .before .match .keys5) (c .before .before .install-certificate .ensures)
+
+same-length-6 : tie.Need-same-length-6
+same-length-6 c = search needs
+
+returns-7 : tie.Need-returns-7
+returns-7 c = of-its-kind _ (c .before .before .before .before .before .before .before .before .args .e) 6 _ _ (c .before .before .before .before .match .keys6) (c .before .before .delete-certificate .ensures)
+
+same-length-7 : tie.Need-same-length-7
+same-length-7 c = search needs
+
+returns-8 : tie.Need-returns-8
+returns-8 c = of-its-kind _ (c .before .before .before .before .before .before .before .before .args .e) 7 _ _ (c .before .before .before .before .match .keys7) (c .before .before .mark-valid .ensures)
+
+same-length-8 : tie.Need-same-length-8
+same-length-8 c = search needs
+
+returns-9 : tie.Need-returns-9
+returns-9 c = of-its-kind _ (c .before .before .before .before .before .before .before .before .args .e) 8 _ _ (c .before .before .before .before .match .keys8) (c .before .before .mark-invalid .ensures)
+
+same-length-9 : tie.Need-same-length-9
+same-length-9 c = search needs
+
+returns-10 : tie.Need-returns-10
+returns-10 c = of-its-kind _ (c .before .before .before .before .before .before .before .before .args .e) 9 _ _ (c .before .before .before .before .match .keys9) (c .before .before .message .ensures)
+
+same-length-10 : tie.Need-same-length-10
+same-length-10 c = search needs
+
+returns-11 : tie.Need-returns-11
+returns-11 c = of-its-kind _ (c .before .before .before .before .before .before .before .before .args .e) 10 _ _ (c .before .before .before .before .match .keys10) (c .before .before .install-executable .ensures)
+
+same-length-11 : tie.Need-same-length-11
+same-length-11 c = search needs
+
+returns-12 : tie.Need-returns-12
+returns-12 c = of-its-kind _ (c .before .before .before .before .before .before .before .before .args .e) 11 _ _ (c .before .before .before .before .match .keys11) (c .before .before .delete-executable .ensures)
+
+same-length-12 : tie.Need-same-length-12
+same-length-12 c = search needs
+
+returns-13 : tie.Need-returns-13
+returns-13 c = of-its-kind _ (c .before .before .before .before .before .before .before .before .args .e) 12 _ _ (c .before .before .before .before .match .keys12) (c .before .before .verify .ensures)
+
+same-length-13 : tie.Need-same-length-13
+same-length-13 c = search needs
+
+returns-14 : tie.Need-returns-14
+returns-14 c = of-its-kind _ (c .before .before .before .before .before .before .before .before .args .e) 13 _ _ (c .before .before .before .before .match .keys13) (c .before .before .give .ensures)
+
+same-length-14 : tie.Need-same-length-14
+same-length-14 c = search needs
+
+returns-15 : tie.Need-returns-15
+returns-15 c = of-its-kind _ (c .before .before .before .before .before .before .before .before .args .e) 14 _ _ (c .before .before .before .before .match .keys14) (c .before .before .withdraw .ensures)
+
+same-length-15 : tie.Need-same-length-15
+same-length-15 c = search needs
+
+returns-16 : tie.Need-returns-16
+returns-16 c = of-its-kind _ (c .before .before .before .before .before .before .args .e) 15 _ _ (c .before .before .match .keys15) (c .request .ensures)
+
+returns-17 : tie.Need-returns-17
+returns-17 c = no-such-kind _ (c .before .before .before .before .before .args .e) (c .before .match .rest .0 .0 .0 .0 .0 .0 .0 .0 .0 .0 .0 .0 .0 .0 .1) (c .before .match .rest .0 .0 .0 .0 .0 .0 .0 .0 .0 .0 .0 .0 .0 .1) (c .before .match .rest .0 .0 .0 .0 .0 .0 .0 .0 .0 .0 .0 .0 .1) (c .before .match .rest .0 .0 .0 .0 .0 .0 .0 .0 .0 .0 .0 .1) (c .before .match .rest .0 .0 .0 .0 .0 .0 .0 .0 .0 .0 .1) (c .before .match .rest .0 .0 .0 .0 .0 .0 .0 .0 .0 .1) (c .before .match .rest .0 .0 .0 .0 .0 .0 .0 .0 .1) (c .before .match .rest .0 .0 .0 .0 .0 .0 .0 .1) (c .before .match .rest .0 .0 .0 .0 .0 .0 .1) (c .before .match .rest .0 .0 .0 .0 .0 .1) (c .before .match .rest .0 .0 .0 .0 .1) (c .before .match .rest .0 .0 .0 .1) (c .before .match .rest .0 .0 .1) (c .before .match .rest .0 .1) (c .before .match .rest .1) _ (c .refused2 .ensures)
+
+pub handle-spec : {M : Type 1} → statement M
+handle-spec =
+    tie.close
+    (tie.spec
+    refused-requires
+    returns
+    clock-requires
+    card-in-requires
+    card-out-requires
+    power-up-requires
+    install-certificate-requires
+    delete-certificate-requires
+    mark-valid-requires
+    mark-invalid-requires
+    message-requires
+    install-executable-requires
+    delete-executable-requires
+    verify-requires
+    give-requires
+    withdraw-requires
+    request-requires
+    refused-requires-2
+    same-length
+    returns-2
+    same-length-2
+    returns-3
+    same-length-3
+    returns-4
+    same-length-4
+    returns-5
+    same-length-5
+    returns-6
+    same-length-6
+    returns-7
+    same-length-7
+    returns-8
+    same-length-8
+    returns-9
+    same-length-9
+    returns-10
+    same-length-10
+    returns-11
+    same-length-11
+    returns-12
+    same-length-12
+    returns-13
+    same-length-13
+    returns-14
+    same-length-14
+    returns-15
+    same-length-15
+    returns-16
+    returns-17)

@@ -1,0 +1,57 @@
+use Rattle.events.proofs.Handles.{installed}
+use Rattle.rules.specs.Forms.{with-kind}
+use Rattle.events.proofs.Handles.{handled-refused, handled-settled, framed-effect}
+use Rattle.rules.specs.Step.{done}
+use borrow.Author.Needs.{needs}
+use Rattle.events.proofs.install_certificate.Statement.{statement}
+use Rattle.events.proofs.install_certificate.Tie as tie
+
+install-certificate-requires : tie.Need-install-certificate-requires
+install-certificate-requires c κs = search needs
+
+refused-requires : tie.Need-refused-requires
+refused-requires c κs = search needs
+
+same-length : tie.Need-same-length
+same-length c = search needs
+
+returns : tie.Need-returns
+returns c = handled-refused _ (with-kind 5 (c .before .before .before .before .before .before .args .e)) _ (c .before .before .before .install-certificate .ensures .code) (c .before .if1 .taken) _ (c .refused .ensures)
+
+mode-requires : tie.Need-mode-requires
+mode-requires c κs = search needs
+
+new-certificate-requires : tie.Need-new-certificate-requires
+new-certificate-requires c κs = search needs
+
+install-certificate-requires-2 : tie.Need-install-certificate-requires-2
+install-certificate-requires-2 c κs = (c .before .before .before .before .before .before .before .before .before .pre .0 .framed, (c .before .before .before .before .before .before .install-certificate .ensures .named (c .before .before .before .before .if1 .left), c .before .before .before .before .before .before .install-certificate .ensures .within (c .before .before .before .before .if1 .left)))
+
+settle-requires : tie.Need-settle-requires
+settle-requires c κs = framed-effect _ (with-kind 5 (c .before .before .before .before .before .before .before .before .before .before .before .before .before .args .e)) (c .before .before .before .before .before .before .before .before .before .before .before .before .before .pre .0) _ (installed _ (c .before .before .before .before .before .before .before .before .before .before .before .before .before .args .e) _ _ (c .before .before .before .before .before .new-certificate .ensures) (c .before .before .before .before .before .before .mode .ensures) _ (c .before .before .before .install-certificate2 .ensures))
+
+refused-requires-2 : tie.Need-refused-requires-2
+refused-requires-2 c κs = search needs
+
+same-length-2 : tie.Need-same-length-2
+same-length-2 c = search needs
+
+returns-2 : tie.Need-returns-2
+unfolding done
+returns-2 c = handled-settled _ (with-kind 5 (c .before .before .before .before .before .before .before .before .before .before .before .before .before .before .before .before .before .args .e)) _ (c .before .before .before .before .before .before .before .before .before .before .before .before .before .before .install-certificate .ensures .code) (c .before .before .before .before .before .before .before .before .before .before .before .before .if1 .left) _ (c .refused2 .ensures) _ _ (installed _ (c .before .before .before .before .before .before .before .before .before .before .before .before .before .before .before .before .before .args .e) _ _ (c .before .before .before .before .before .before .before .before .before .new-certificate .ensures) (c .before .before .before .before .before .before .before .before .before .before .mode .ensures) _ (c .before .before .before .before .before .before .before .install-certificate2 .ensures)) (c .before .before .before .settle .ensures)
+
+pub install-certificate-spec : {M : Type 1} → statement M
+install-certificate-spec =
+    tie.close
+    (tie.spec
+    install-certificate-requires
+    refused-requires
+    same-length
+    returns
+    mode-requires
+    new-certificate-requires
+    install-certificate-requires-2
+    settle-requires
+    refused-requires-2
+    same-length-2
+    returns-2)

@@ -1,0 +1,50 @@
+use Rattle.rules.specs.Forms.{with-kind}
+use Rattle.events.proofs.Handles.{handled-refused, handled-settled, framed-effect}
+use Rattle.rules.specs.Effects.{effect, message, enabled-by}
+use Rattle.rules.specs.Step.{done}
+use borrow.Author.Needs.{needs}
+use Rattle.events.proofs.message.Statement.{statement}
+use Rattle.events.proofs.message.Tie as tie
+
+message-requires : tie.Need-message-requires
+message-requires c κs = search needs
+
+refused-requires : tie.Need-refused-requires
+refused-requires c κs = search needs
+
+same-length : tie.Need-same-length
+same-length c = search needs
+
+returns : tie.Need-returns
+returns c = handled-refused _ (with-kind 9 (c .before .before .before .before .before .args .e)) _ (c .before .before .message .ensures .0) (c .before .if1 .taken) _ (c .refused .ensures)
+
+message-requires-2 : tie.Need-message-requires-2
+message-requires-2 c κs = (c .before .before .before .before .before .pre .0 .framed, c .before .before .message .ensures .1 (c .before .if1 .left))
+
+settle-requires : tie.Need-settle-requires
+unfolding effect message enabled-by
+settle-requires c κs = framed-effect (c .before .before .before .before .before .before .before .before .before .args .s .now) (with-kind 9 (c .before .before .before .before .before .before .before .before .before .args .e)) (c .before .before .before .before .before .before .before .before .before .pre .0) _ (c .before .before .before .message2 .ensures)
+
+refused-requires-2 : tie.Need-refused-requires-2
+refused-requires-2 c κs = search needs
+
+same-length-2 : tie.Need-same-length-2
+same-length-2 c = search needs
+
+returns-2 : tie.Need-returns-2
+unfolding effect message enabled-by done
+returns-2 c = handled-settled _ (with-kind 9 (c .before .before .before .before .before .before .before .before .before .before .before .before .before .args .e)) _ (c .before .before .before .before .before .before .before .before .before .before .message .ensures .0) (c .before .before .before .before .before .before .before .before .before .if1 .left) _ (c .refused2 .ensures) _ _ (c .before .before .before .before .before .before .before .message2 .ensures) (c .before .before .before .settle .ensures)
+
+pub message-spec : {M : Type 1} → statement M
+message-spec =
+    tie.close
+    (tie.spec
+    message-requires
+    refused-requires
+    same-length
+    returns
+    message-requires-2
+    settle-requires
+    refused-requires-2
+    same-length-2
+    returns-2)
