@@ -1,15 +1,54 @@
 -- What the library's functions promise, over buffers. Definitions only.
-use Prim.Native.Nat.{ℕ, _+_, _*_}
-use mathlib.Core.List.{List}
+use Prim.Native.Nat.{ℕ, zero, suc, _+_, _*_, _/_, _%_, min}
+use mathlib.Core.Bool.{cond}
+use mathlib.Core.List.{List, [], _∷_}
 use mathlib.Core.Path.{_≡_}
+use lib.Dec.{eqb}
+use lib.ListN.{length, take, drop}
+use Rattle.octets.specs.Octets.{put}
+use Rattle.records.specs.Sizes.{event-size}
+use Rattle.records.specs.Phone.{joined}
 use Rattle.rules.specs.declared.Answer.{Answer}
-use Rattle.rules.specs.Step.{step}
+use Rattle.rules.specs.Step.{step, run, answers}
+
+-- ---- one step
 
 -- an answer as one number: code, domain and links, a byte each
 abbrev pub packed : Answer → ℕ
 packed a = (a .code * 256 + a .domain) * 256 + a .links
 
--- one step: the number and the image
+-- the number and the image
 pub record Stepped (l v : List ℕ) (r : ℕ) (l′ : List ℕ) : Type 0 where
   pub answer : r ≡ packed (step l v .answer)
   pub image : l′ ≡ step l v .image
+
+-- ---- a run
+
+-- an answer as three bytes
+abbrev pub answer-size : ℕ
+answer-size = 3
+
+abbrev pub answer-bytes : Answer → List ℕ
+answer-bytes a = a .code ∷ a .domain ∷ a .links ∷ []
+
+-- the first n events of a buffer, one after the other; the last may be short
+abbrev pub events-of : List ℕ → ℕ → List (List ℕ)
+events-of b zero = []
+events-of b (suc n) = take event-size b ∷ events-of (drop event-size b) n
+
+-- how many events n bytes are, a short last one counted, and how many of them m bytes of answers have room for
+abbrev pub event-count : ℕ → ℕ
+event-count n = cond (eqb (n % event-size) 0) (n / event-size) (n / event-size + 1)
+
+abbrev pub answered : ℕ → ℕ → ℕ
+answered n m = min (event-count n) (m / answer-size)
+
+-- n events on an image l: the image and the buffer of answers after them
+pub record Followed (l b out : List ℕ) (n : ℕ) (l′ out′ : List ℕ) : Type 0 where
+  pub image : l′ ≡ run l (events-of b n)
+  pub told : out′ ≡ put out 0 (joined answer-bytes (answers l (events-of b n)))
+
+-- a run: every event for whose answer there is room, and how many these are
+pub record Ran (l b out : List ℕ) (n : ℕ) (l′ out′ : List ℕ) : Type 0 where
+  pub count : n ≡ answered (length b) (length out)
+  pub followed : Followed l b out n l′ out′

@@ -1,8 +1,19 @@
-// The library that a simulator links: opening an image, and one event on it.
+// The library that a simulator links: opening an image, one event on it, and a run of events.
+use records::Event;
 use rules::Answer;
 ghost use mathlib.Core.Path.{_≡_};
+ghost use Prim.Native.Nat.{_+_, _*_, _≤_};
+ghost use lib.ListN.{length, take, drop, replicate};
+ghost use Rattle.octets.specs.Octets.{put};
+ghost use Rattle.records.specs.Sizes.{event-size};
+ghost use Rattle.records.specs.Phone.{joined};
 ghost use Rattle.rules.specs.ImageRules.{«open»};
-ghost use Rattle.monitor.specs.Told.{packed, Stepped};
+ghost use Rattle.rules.specs.Step.{refused};
+ghost use Rattle.opening.specs.Opened.{Accepted-image};
+ghost use Rattle.events.specs.Stepped.{Stepped-on};
+ghost use Rattle.monitor.specs.Told.{packed, Stepped, answer-size, answer-bytes, event-count, answered, Followed, Ran};
+
+const ANSWER_SIZE: usize = 3;
 
 // An answer in one register: a C caller has no record to fill.
 fn pack(a: Answer) -> u32
@@ -25,4 +36,100 @@ pub extern "C" fn monitor_step(image: &mut [u8], event: &[u8]) -> u32
     ensures { λ r. ⌜ Stepped (now (image .entry)) (now (event .entry)) r (now (image .exit)) ⌝ }
 {
     pack(events::step(image, event))
+}
+
+// ---- a run of events
+
+fn event_count(n: usize) -> usize
+    ensures { λ r. ⌜ r ≡ event-count n ⌝ }
+{
+    if n % Event::SIZE == 0 {
+        return n / Event::SIZE;
+    }
+    n / Event::SIZE + 1
+}
+
+// How many of the events in n bytes can be answered in m bytes.
+fn answered(n: usize, m: usize) -> usize
+    ensures { λ r. ⌜ r ≡ answered n m ⌝ }
+{
+    let all = event_count(n);
+    let room = m / ANSWER_SIZE;
+    if all <= room {
+        return all;
+    }
+    room
+}
+
+// The i-th answer of a buffer, as three bytes.
+fn tell(answers: &mut [u8], i: usize, a: Answer)
+    requires { ⌜ i * answer-size + answer-size ≤ length (now answers) ⌝ }
+    ensures { λ _. ⌜ now (answers .exit) ≡ put (now (answers .entry)) (i * answer-size) (answer-bytes a) ⌝ }
+{
+    let at = i * ANSWER_SIZE;
+    answers[at] = a.code;
+    answers[at + 1] = a.domain;
+    answers[at + 2] = a.links;
+}
+
+// The i-th event of a buffer; what is left where that is less than a record.
+fn one(image: &mut [u8], events: &[u8], i: usize) -> Answer
+    requires { ⌜ Accepted-image (now image) ⌝ }
+    requires { ⌜ i * event-size ≤ length (now events) ⌝ }
+    ensures { λ r. ⌜ Stepped-on (now (image .entry)) (take event-size (drop (i * event-size) (now (events .entry)))) r (now (image .exit)) ⌝ }
+{
+    let at = i * Event::SIZE;
+    if events.len() - at < Event::SIZE {
+        return events::step_on(image, &events[at..]);
+    }
+    events::step_on(image, &events[at..at + Event::SIZE])
+}
+
+fn follow(image: &mut [u8], events: &[u8], answers: &mut [u8], n: usize)
+    requires { ⌜ Accepted-image (now image) ⌝ }
+    requires { ⌜ n * event-size ≤ length (now events) + event-size ⌝ }
+    requires { ⌜ n * answer-size ≤ length (now answers) ⌝ }
+    ensures { λ _. ⌜ Followed (now (image .entry)) (now (events .entry)) (now (answers .entry)) n (now (image .exit)) (now (answers .exit)) ⌝ }
+{
+    let mut i = 0;
+    while i < n {
+        let a = one(image, events, i);
+        tell(answers, i, a);
+        i += 1;
+    }
+}
+
+// An image that is not accepted is told so at every event.
+fn refuse(answers: &mut [u8], n: usize)
+    requires { ⌜ n * answer-size ≤ length (now answers) ⌝ }
+    ensures { λ _. ⌜ now (answers .exit) ≡ put (now (answers .entry)) 0 (joined answer-bytes (replicate n (refused 1))) ⌝ }
+{
+    let mut i = 0;
+    while i < n {
+        tell(
+            answers,
+            i,
+            Answer {
+                code: 1,
+                domain: 0,
+                links: 0,
+            },
+        );
+        i += 1;
+    }
+}
+
+// Events one after the other, the last of which may be short, on an image that is opened once: three bytes for each
+// answer, as long as there is room, and the number of answers. Any bytes.
+#[no_mangle]
+pub extern "C" fn monitor_run(image: &mut [u8], events: &[u8], answers: &mut [u8]) -> usize
+    ensures { λ r. ⌜ Ran (now (image .entry)) (now (events .entry)) (now (answers .entry)) r (now (image .exit)) (now (answers .exit)) ⌝ }
+{
+    let n = answered(events.len(), answers.len());
+    if opening::open(image) != 0 {
+        refuse(answers, n);
+        return n;
+    }
+    follow(image, events, answers, n);
+    n
 }

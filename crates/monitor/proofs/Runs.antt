@@ -1,0 +1,200 @@
+-- Laws of a run: what is left of it shrinks by an event at a time. Assumes nothing.
+use Prim.Native.Nat.{ℕ, zero, suc, _+_, _-_, _*_, _/_, _%_, _≤_, _<_, min}
+use mathlib.Core.Bool.{Bool, true, false, cond}
+use mathlib.Core.List.{List, [], _∷_, _++_}
+use mathlib.Core.Logic.{_≢_}
+use mathlib.Core.Path.{_≡_, refl, sym, ap, ap₂, _∙_, subst}
+use native.Mathlib.Nat.{div-mul-le-self, min-le-left, min-le-right, sub-zero}
+use native.Mathlib.Omega.{arith}
+use borrow.Author.Tests.{eq-eqb, ne-eqb}
+use lib.Dec.{eqb}
+use lib.ListN.{length, take, drop, replicate, length-drop}
+use lib.Seq.{drop-drop, take-all}
+use Rattle.octets.specs.Octets.{put}
+use Rattle.octets.proofs.Laws.{put-none, length-put}
+use Rattle.records.specs.Sizes.{event-size}
+use Rattle.records.specs.Phone.{joined}
+use Rattle.records.proofs.Puts.{put-next}
+use Rattle.rules.specs.declared.Answer.{Answer}
+use Rattle.rules.specs.ImageRules.{«open»}
+use Rattle.rules.specs.Step.{refused, step, run, answers}
+use Rattle.events.specs.Stepped.{Stepped, Stepped-on}
+use Rattle.events.proofs.Steps.{broken-stepped}
+use Rattle.monitor.specs.Told.{answer-size, answer-bytes, events-of, event-count, answered, Followed}
+
+-- ---- how many events there are, and the one that may be short
+
+pub count-whole : (n : ℕ) → n % event-size ≡ 0 → n / event-size ≡ event-count n
+count-whole n h = sym (ap (λ (t : Bool). cond t (n / event-size) (n / event-size + 1)) (eq-eqb (n % event-size) 0 h))
+
+pub count-short : (n : ℕ) → n % event-size ≢ 0 → n / event-size + 1 ≡ event-count n
+count-short n h = sym (ap (λ (t : Bool). cond t (n / event-size) (n / event-size + 1)) (ne-eqb (n % event-size) 0 h))
+
+pub last-event : (b : List ℕ) (i : ℕ) → length b - i < event-size → take (length b - i) (drop i b) ≡ take event-size (drop i b)
+last-event b i h =
+    let k : length (drop i b) ≡ length b - i = length-drop i b in
+    take-all (length b - i) (drop i b) (omega arith) ∙ sym (take-all event-size (drop i b) (omega arith))
+
+pub whole-event : (b : List ℕ) (i : ℕ) → take (i + event-size - i) (drop i b) ≡ take event-size (drop i b)
+whole-event b i =
+    let k : i + event-size - i ≡ event-size = omega arith in
+    ap (λ (n : ℕ). take n (drop i b)) k
+
+pub stepped-same : (l v w : List ℕ) (r : Answer) (l′ : List ℕ) → v ≡ w → Stepped-on l v r l′ → Stepped-on l w r l′
+stepped-same l v w r l′ e s = subst (λ (x : List ℕ). Stepped-on l x r l′) e s
+
+-- ---- answers one after the other
+
+abbrev pub told-by : List ℕ → ℕ → List Answer → List ℕ
+told-by out i rs = put out (i * answer-size) (joined answer-bytes rs)
+
+pub tell-next : (out : List ℕ) (i : ℕ) (r : Answer) (rs : List Answer) → i * answer-size ≤ length out
+    → told-by (put out (i * answer-size) (answer-bytes r)) (i + 1) rs ≡ told-by out i (r ∷ rs)
+tell-next out i r rs h =
+    let k : (i + 1) * answer-size ≡ i * answer-size + length (answer-bytes r) = omega arith in
+    ap (λ (n : ℕ). put (put out (i * answer-size) (answer-bytes r)) n (joined answer-bytes rs)) k
+    ∙ put-next out (i * answer-size) (answer-bytes r) (joined answer-bytes rs) h
+
+-- ---- what is left of n events behind the first i
+
+abbrev pub rest : List ℕ → ℕ → ℕ → List (List ℕ)
+rest b n i = events-of (drop (i * event-size) b) (n - i)
+
+rest-next : (b : List ℕ) (n i : ℕ) → i < n → rest b n i ≡ take event-size (drop (i * event-size) b) ∷ rest b n (i + 1)
+rest-next b n i h =
+    let k : n - i ≡ suc (n - (i + 1)) = omega arith in
+    let j : i * event-size + event-size ≡ (i + 1) * event-size = omega arith in
+    ap (events-of (drop (i * event-size) b)) k
+    ∙ ap (λ (c : List ℕ). take event-size (drop (i * event-size) b) ∷ events-of c (n - (i + 1)))
+    (drop-drop event-size (i * event-size) b ∙ ap (λ (m : ℕ). drop m b) j)
+
+pub record Left (l₀ b out₀ : List ℕ) (n : ℕ) (l out : List ℕ) (i : ℕ) : Type 0 where
+  pub within : i ≤ n
+  pub image : run l (rest b n i) ≡ run l₀ (events-of b n)
+  pub told : told-by out i (answers l (rest b n i)) ≡ told-by out₀ 0 (answers l₀ (events-of b n))
+  pub room : length out ≡ length out₀
+
+module _ (l₀ b out₀ : List ℕ) (n : ℕ) where
+  pub left-all : Left l₀ b out₀ n l₀ out₀ 0
+  left-all =
+      let k : events-of b (n - 0) ≡ events-of b n = ap (events-of b) (sub-zero n) in
+      record {
+        within = omega arith;
+        image = ap (run l₀) k;
+        told = ap (λ (vs : List (List ℕ)). told-by out₀ 0 (answers l₀ vs)) k;
+        room = refl;
+      }
+
+  pub left-less : (l out : List ℕ) (i : ℕ) → Left l₀ b out₀ n l out i → i < n → n * answer-size ≤ length out₀
+      → (r : Answer) (l′ out′ : List ℕ) → Stepped l (take event-size (drop (i * event-size) b)) r l′
+      → out′ ≡ put out (i * answer-size) (answer-bytes r) → Left l₀ b out₀ n l′ out′ (i + 1)
+  unfolding run answers
+  left-less l out i f h m r l′ out′ s o =
+      let v = take event-size (drop (i * event-size) b) in
+      let e : rest b n i ≡ v ∷ rest b n (i + 1) = rest-next b n i h in
+      let room : length out ≡ length out₀ = f .room in
+      let h′ : i * answer-size + answer-size ≤ length out = omega arith in
+      record {
+        within = omega arith;
+        image = ap (λ (x : List ℕ). run x (rest b n (i + 1))) (s .image) ∙ sym (ap (run l) e) ∙ f .image;
+        told =
+            ap (λ (x : List ℕ). told-by x (i + 1) (answers l′ (rest b n (i + 1)))) o
+            ∙ tell-next out i r (answers l′ (rest b n (i + 1))) (omega arith)
+            ∙ ap₂ (λ (a : Answer) (x : List ℕ). told-by out i (a ∷ answers x (rest b n (i + 1)))) (s .answer) (s .image)
+            ∙ sym (ap (λ (vs : List (List ℕ)). told-by out i (answers l vs)) e)
+            ∙ f .told;
+        room = ap length o ∙ length-put out (i * answer-size) (answer-bytes r) h′ ∙ room;
+      }
+
+  pub left-none : (l out : List ℕ) (i : ℕ) → Left l₀ b out₀ n l out i → n ≤ i → Followed l₀ b out₀ n l out
+  unfolding run answers
+  left-none l out i f h =
+      let w : i ≤ n = f .within in
+      let z : n - i ≡ 0 = omega arith in
+      let k : rest b n i ≡ [] = ap (events-of (drop (i * event-size) b)) z in
+      record {
+        image = sym (ap (run l) k) ∙ f .image;
+        told = sym (put-none out (i * answer-size)) ∙ sym (ap (λ (vs : List (List ℕ)). told-by out i (answers l vs)) k) ∙ f .told;
+      }
+
+-- ---- an image that is not accepted
+
+module _ (l : List ℕ) (o : ℕ) (e : o ≡ «open» l) (h : o ≢ 0) where
+  still : (v : List ℕ) → Stepped l v (refused 1) l
+  still v = broken-stepped l v o e h (refused 1) refl
+
+  broken-run : (vs : List (List ℕ)) → run l vs ≡ l
+  unfolding run
+  broken-run [] = refl
+  broken-run (v ∷ vs) = ap (λ (x : List ℕ). run x vs) (sym (still v .image)) ∙ broken-run vs
+
+  broken-answers : (n : ℕ) (b : List ℕ) → answers l (events-of b n) ≡ replicate n (refused 1)
+  unfolding answers
+  broken-answers zero b = refl
+  broken-answers (suc n) b =
+      let s = still (take event-size b) in
+      ap₂ (λ (a : Answer) (x : List ℕ). a ∷ answers x (events-of (drop event-size b) n)) (sym (s .answer)) (sym (s .image))
+      ∙ ap (λ (rs : List Answer). refused 1 ∷ rs) (broken-answers n (drop event-size b))
+
+  pub broken-followed : (b out out′ : List ℕ) (n : ℕ) → out′ ≡ put out 0 (joined answer-bytes (replicate n (refused 1))) → Followed l b out n l out′
+  broken-followed b out out′ n t =
+      record {
+        image = sym (broken-run (events-of b n));
+        told = t ∙ sym (ap (λ (rs : List Answer). put out 0 (joined answer-bytes rs)) (broken-answers n b));
+      }
+
+-- what is left of n refusals behind the first i
+pub record Untold (out₀ : List ℕ) (n : ℕ) (out : List ℕ) (i : ℕ) : Type 0 where
+  pub within : i ≤ n
+  pub told : told-by out i (replicate (n - i) (refused 1)) ≡ told-by out₀ 0 (replicate n (refused 1))
+  pub room : length out ≡ length out₀
+
+module _ (out₀ : List ℕ) (n : ℕ) where
+  pub untold-all : Untold out₀ n out₀ 0
+  untold-all =
+      record {
+        within = omega arith;
+        told = ap (λ (m : ℕ). told-by out₀ 0 (replicate m (refused 1))) (sub-zero n);
+        room = refl;
+      }
+
+  pub untold-less : (out : List ℕ) (i : ℕ) → Untold out₀ n out i → i < n → n * answer-size ≤ length out₀
+      → (out′ : List ℕ) → out′ ≡ put out (i * answer-size) (answer-bytes (refused 1)) → Untold out₀ n out′ (i + 1)
+  untold-less out i f h m out′ o =
+      let k : n - i ≡ suc (n - (i + 1)) = omega arith in
+      let room : length out ≡ length out₀ = f .room in
+      let h′ : i * answer-size + answer-size ≤ length out = omega arith in
+      record {
+        within = omega arith;
+        told =
+            ap (λ (x : List ℕ). told-by x (i + 1) (replicate (n - (i + 1)) (refused 1))) o
+            ∙ tell-next out i (refused 1) (replicate (n - (i + 1)) (refused 1)) (omega arith)
+            ∙ sym (ap (λ (m : ℕ). told-by out i (replicate m (refused 1))) k)
+            ∙ f .told;
+        room = ap length o ∙ length-put out (i * answer-size) (answer-bytes (refused 1)) h′ ∙ room;
+      }
+
+  pub untold-none : (out : List ℕ) (i : ℕ) → Untold out₀ n out i → n ≤ i → out ≡ put out₀ 0 (joined answer-bytes (replicate n (refused 1)))
+  untold-none out i f h =
+      let w : i ≤ n = f .within in
+      let z : n - i ≡ 0 = omega arith in
+      sym (put-none out (i * answer-size)) ∙ sym (ap (λ (m : ℕ). told-by out i (replicate m (refused 1))) z) ∙ f .told
+
+-- ---- how many there is room for
+
+pub answered-room : (n m : ℕ) → answered n m * answer-size ≤ m
+answered-room n m =
+    let a = min-le-right (event-count n) (m / answer-size) in
+    let d = div-mul-le-self m answer-size in
+    omega arith
+
+pub answered-events : (n m : ℕ) → answered n m * event-size ≤ n + event-size
+answered-events n m =
+    let a = min-le-left (event-count n) (m / answer-size) in
+    let c = count-small (eqb (n % event-size) 0) in
+    let d = div-mul-le-self n event-size in
+    omega arith
+  where
+    count-small : (t : Bool) → cond t (n / event-size) (n / event-size + 1) ≤ n / event-size + 1
+    count-small true = omega arith
+    count-small false = omega arith

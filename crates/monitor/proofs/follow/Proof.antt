@@ -1,0 +1,60 @@
+use mathlib.Core.Path.{_≡_, refl}
+use Prim.Native.Nat.{_-_}
+use lib.ListN.{length}
+use native.Mathlib.Omega.{arith}
+use borrow.Author.Needs.{needs}
+use Rattle.opening.specs.Opened.{Accepted-image}
+use Rattle.monitor.proofs.Runs.{Left, left-all, left-less, left-none}
+use Rattle.monitor.proofs.follow.Statement.{statement}
+use Rattle.monitor.proofs.follow.Tie as tie
+
+abbrev Inv-loop : tie.InvT-loop
+Inv-loop image₀ events answers₀ n i₀ image answers i = (length image ≡ length image₀) × Accepted-image image × Left image₀ events answers₀ n image answers i
+
+abbrev μ-loop : tie.MeasureT-loop
+μ-loop image₀ events answers₀ n i₀ image answers i = n - i
+
+loop-holds : tie.Need-loop-holds Inv-loop μ-loop
+loop-holds c = (refl, search needs, left-all _ _ _ _)
+
+one-requires : tie.Need-one-requires Inv-loop μ-loop
+one-requires c κs = (c .before .before .loop .inv .1, omega arith)
+
+tell-requires : tie.Need-tell-requires Inv-loop μ-loop
+tell-requires c κs =
+    let r = c .before .before .before .before .before .before .loop .inv .2 .room in
+    omega arith
+
+add-i : tie.Need-add-i Inv-loop μ-loop
+add-i c = search needs
+
+loop-less : tie.Need-loop-less Inv-loop μ-loop
+loop-less c = search needs
+
+loop-again : tie.Need-loop-again Inv-loop μ-loop
+loop-again c = (search needs, c .before .before .before .before .before .before .one .ensures .accepted, left-less _ _ _ _ _ _ _ (c .before .before .before .before .before .before .before .before .before .loop .inv .2) (omega arith) (search needs) _ _ _ (c .before .before .before .before .before .before .one .ensures .stepped) (c .before .before .tell .ensures))
+
+same-length : tie.Need-same-length Inv-loop μ-loop
+same-length c = c .before .loop .inv .0
+
+same-length-2 : tie.Need-same-length-2 Inv-loop μ-loop
+same-length-2 c = c .before .loop .inv .2 .room
+
+returns : tie.Need-returns Inv-loop μ-loop
+returns c = left-none _ _ _ _ _ _ _ (c .before .loop .inv .2) (omega arith)
+
+pub follow-spec : {M : Type 1} → statement M
+follow-spec =
+    tie.close
+    (tie.spec
+    Inv-loop
+    μ-loop
+    loop-holds
+    one-requires
+    tell-requires
+    add-i
+    loop-less
+    loop-again
+    same-length
+    same-length-2
+    returns)
