@@ -64,6 +64,9 @@ pub no-such-kind : (l : List ℕ) (e : Event) → e .kind ≢ 1 → e .kind ≢ 
 no-such-kind l e n1 n2 n3 n4 n5 n6 n7 n8 n9 n10 n11 n12 n13 n14 n15 x q =
     handled-refused l e 2 (no-form-code (decode l) e (no-kind (e .kind) n1 n2 n3 n4 n5 n6 n7 n8 n9 n10 n11 n12 n13 n14 n15)) (λ z. omega arith) x q
 
+pub kind-zero : (l : List ℕ) (e : Event) → e .kind ≡ 0 → (x : Answer) → x ≡ refused 2 → Handled l e x l
+kind-zero l e k x q = handled-refused l e 2 (no-form-code (decode l) e (ap (λ n. getD forms n no-form) k)) (λ z. omega arith) x q
+
 pub no-such-actor : (l : List ℕ) (e : Event) → 4 < e .actor → (x : Answer) → x ≡ refused 2 → Handled l e x l
 unfolding code-of first malformed
 no-such-actor l e h x q = handled-refused l e 2 (rw (lt-leb (e .actor) 4 h)) (λ z. omega arith) x q

@@ -270,7 +270,7 @@ fn handle(s: &mut [u8], e: Event) -> Answer
         13 => give(s, e),
         14 => withdraw(s, e),
         15 => request(s, e),
-        _ => refused(2),
+        0 | 16..=255 => refused(2),
     }
 }
 

@@ -1,4 +1,5 @@
-use Rattle.events.proofs.Steps.{of-its-kind, no-such-kind, no-such-actor}
+use mathlib.Core.Logic.{⊎-elim}
+use Rattle.events.proofs.Steps.{of-its-kind, no-such-kind, kind-zero, no-such-actor}
 use borrow.Author.Needs.{needs}
 use Rattle.events.proofs.handle.Statement.{statement}
 use Rattle.events.proofs.handle.Tie as tie
@@ -148,7 +149,10 @@ returns-16 : tie.Need-returns-16
 returns-16 c = of-its-kind _ (c .before .before .before .before .before .before .args .e) 15 _ _ (c .before .before .match .keys15) (c .request .ensures)
 
 returns-17 : tie.Need-returns-17
-returns-17 c = no-such-kind _ (c .before .before .before .before .before .args .e) (c .before .match .rest .0 .0 .0 .0 .0 .0 .0 .0 .0 .0 .0 .0 .0 .0 .1) (c .before .match .rest .0 .0 .0 .0 .0 .0 .0 .0 .0 .0 .0 .0 .0 .1) (c .before .match .rest .0 .0 .0 .0 .0 .0 .0 .0 .0 .0 .0 .0 .1) (c .before .match .rest .0 .0 .0 .0 .0 .0 .0 .0 .0 .0 .0 .1) (c .before .match .rest .0 .0 .0 .0 .0 .0 .0 .0 .0 .0 .1) (c .before .match .rest .0 .0 .0 .0 .0 .0 .0 .0 .0 .1) (c .before .match .rest .0 .0 .0 .0 .0 .0 .0 .0 .1) (c .before .match .rest .0 .0 .0 .0 .0 .0 .0 .1) (c .before .match .rest .0 .0 .0 .0 .0 .0 .1) (c .before .match .rest .0 .0 .0 .0 .0 .1) (c .before .match .rest .0 .0 .0 .0 .1) (c .before .match .rest .0 .0 .0 .1) (c .before .match .rest .0 .0 .1) (c .before .match .rest .0 .1) (c .before .match .rest .1) _ (c .refused2 .ensures)
+returns-17 c =
+    let e = c .before .before .before .before .before .args .e in
+    ⊎-elim (λ z. kind-zero _ e (z .keys16) _ (c .refused2 .ensures))
+    (λ r. no-such-kind _ e (r .rest .0 .0 .0 .0 .0 .0 .0 .0 .0 .0 .0 .0 .0 .0 .0 .1) (r .rest .0 .0 .0 .0 .0 .0 .0 .0 .0 .0 .0 .0 .0 .0 .1) (r .rest .0 .0 .0 .0 .0 .0 .0 .0 .0 .0 .0 .0 .0 .1) (r .rest .0 .0 .0 .0 .0 .0 .0 .0 .0 .0 .0 .0 .1) (r .rest .0 .0 .0 .0 .0 .0 .0 .0 .0 .0 .0 .1) (r .rest .0 .0 .0 .0 .0 .0 .0 .0 .0 .0 .1) (r .rest .0 .0 .0 .0 .0 .0 .0 .0 .0 .1) (r .rest .0 .0 .0 .0 .0 .0 .0 .0 .1) (r .rest .0 .0 .0 .0 .0 .0 .0 .1) (r .rest .0 .0 .0 .0 .0 .0 .1) (r .rest .0 .0 .0 .0 .0 .1) (r .rest .0 .0 .0 .0 .1) (r .rest .0 .0 .0 .1) (r .rest .0 .0 .1) (r .rest .0 .1) _ (c .refused2 .ensures)) (c .before .match .came)
 
 pub handle-spec : {M : Type 1} → statement M
 handle-spec =
