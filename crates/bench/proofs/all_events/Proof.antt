@@ -1,46 +1,72 @@
+use native.Mathlib.Omega.{arith}
+use mathlib.Core.Path.{sym, _≡_}
+use lib.Seq.{length-take-le}
 use borrow.Author.Needs.{needs}
-use mathlib.Core.Path.{_≡_}
-use Prim.Native.Nat.{_-_}
 use lib.ListN.{length}
+use Prim.Native.Nat.{_-_, _≤_}
 use Rattle.opening.specs.Opened.{Accepted-image}
 use Rattle.bench.proofs.all_events.Statement.{statement}
 use Rattle.bench.proofs.all_events.Tie as tie
 
 abbrev Inv-loop : tie.InvT-loop
-Inv-loop s₀ n₀ s n = (length s ≡ length s₀) × Accepted-image s
+Inv-loop s₀ v₀ out₀ used₀ n₀ got₀ s v out used n got = (length s ≡ length s₀) × (length v ≡ length v₀) × (length out ≡ length out₀) × Accepted-image s × (used ≤ length out) × (got ≤ length v)
 
 abbrev μ-loop : tie.MeasureT-loop
-μ-loop s₀ n₀ s n = 4294967295 - n
+μ-loop s₀ v₀ out₀ used₀ n₀ got₀ s v out used n got = 4294967295 - n
+
+read-full-requires : tie.Need-read-full-requires Inv-loop μ-loop
+read-full-requires c κs = search needs
 
 loop-holds : tie.Need-loop-holds Inv-loop μ-loop
 loop-holds c = search needs
 
-add-event : tie.Need-add-event Inv-loop μ-loop
-add-event c = search needs
-
-event-requires : tie.Need-event-requires Inv-loop μ-loop
-event-requires c κs = search needs
-
 add-n : tie.Need-add-n Inv-loop μ-loop
-add-n c = search needs
+add-n c = omega arith
+
+slice-reshare-prefix-step-on : tie.Need-slice-reshare-prefix-step-on Inv-loop μ-loop
+slice-reshare-prefix-step-on c = search needs
+
+slice-aggregate-step-on : tie.Need-slice-aggregate-step-on Inv-loop μ-loop
+slice-aggregate-step-on c = sym (length-take-le _ _ (search needs))
+
+step-on-requires : tie.Need-step-on-requires Inv-loop μ-loop
+step-on-requires c κs = search needs
+
+slice-read-add-line : tie.Need-slice-read-add-line Inv-loop μ-loop
+slice-read-add-line c = search needs
+
+add-line-requires : tie.Need-add-line-requires Inv-loop μ-loop
+add-line-requires c κs = search needs
+
+read-full-requires-2 : tie.Need-read-full-requires-2 Inv-loop μ-loop
+read-full-requires-2 c κs = search needs
 
 loop-less : tie.Need-loop-less Inv-loop μ-loop
-loop-less c = search needs
+loop-less c = omega arith
 
 loop-again : tie.Need-loop-again Inv-loop μ-loop
-loop-again c = search needs
+loop-again c = (search needs, search needs, omega arith, search needs, search needs, search needs)
+
+slice-reshare-prefix-write-all : tie.Need-slice-reshare-prefix-write-all Inv-loop μ-loop
+slice-reshare-prefix-write-all c = search needs
+
+slice-aggregate-write-all : tie.Need-slice-aggregate-write-all Inv-loop μ-loop
+slice-aggregate-write-all c = sym (length-take-le _ _ (search needs))
+
+write-all-requires : tie.Need-write-all-requires Inv-loop μ-loop
+write-all-requires c κs = search needs
 
 same-length : tie.Need-same-length Inv-loop μ-loop
 same-length c = search needs
 
-returns : tie.Need-returns Inv-loop μ-loop
-returns c = search needs
-
 same-length-2 : tie.Need-same-length-2 Inv-loop μ-loop
 same-length-2 c = search needs
 
-returns-2 : tie.Need-returns-2 Inv-loop μ-loop
-returns-2 c = search needs
+same-length-3 : tie.Need-same-length-3 Inv-loop μ-loop
+same-length-3 c = search needs
+
+returns : tie.Need-returns Inv-loop μ-loop
+returns c = search needs
 
 pub all-events-spec : {M : Type 1} → statement M
 all-events-spec =
@@ -48,13 +74,21 @@ all-events-spec =
     (tie.spec
     Inv-loop
     μ-loop
+    read-full-requires
     loop-holds
-    add-event
-    event-requires
     add-n
+    slice-reshare-prefix-step-on
+    slice-aggregate-step-on
+    step-on-requires
+    slice-read-add-line
+    add-line-requires
+    read-full-requires-2
     loop-less
     loop-again
+    slice-reshare-prefix-write-all
+    slice-aggregate-write-all
+    write-all-requires
     same-length
-    returns
     same-length-2
-    returns-2)
+    same-length-3
+    returns)

@@ -2,8 +2,8 @@ use mathlib.Core.Path.{sym}
 use lib.Seq.{length-take-le}
 use native.Mathlib.Omega.{arith}
 use borrow.Author.Needs.{needs}
-use Rattle.bench.proofs.header.Statement.{statement}
-use Rattle.bench.proofs.header.Tie as tie
+use Rattle.stream.proofs.read_image.Statement.{statement}
+use Rattle.stream.proofs.read_image.Tie as tie
 
 slice-relend-prefix-read-full : tie.Need-slice-relend-prefix-read-full
 slice-relend-prefix-read-full c = search needs
@@ -20,17 +20,11 @@ total-requires c κs = search needs
 cast-total : tie.Need-cast-total
 cast-total c = search needs
 
-refuse-requires : tie.Need-refuse-requires
-refuse-requires c κs = search needs
-
 same-length : tie.Need-same-length
 same-length c = search needs
 
 returns : tie.Need-returns
 returns c = search needs
-
-refuse-requires-2 : tie.Need-refuse-requires-2
-refuse-requires-2 c κs = search needs
 
 same-length-2 : tie.Need-same-length-2
 same-length-2 c = search needs
@@ -38,17 +32,23 @@ same-length-2 c = search needs
 returns-2 : tie.Need-returns-2
 returns-2 c = search needs
 
-refuse-requires-3 : tie.Need-refuse-requires-3
-refuse-requires-3 c κs = search needs
-
 same-length-3 : tie.Need-same-length-3
 same-length-3 c = search needs
 
 returns-3 : tie.Need-returns-3
 returns-3 c = search needs
 
-image-requires : tie.Need-image-requires
-image-requires c κs = search needs
+part-read-full-start : tie.Need-part-read-full-start
+part-read-full-start c = search needs
+
+part-read-full-end : tie.Need-part-read-full-end
+part-read-full-end c = search needs
+
+read-full-requires-2 : tie.Need-read-full-requires-2
+read-full-requires-2 c κs = search needs
+
+add-result : tie.Need-add-result
+add-result c = search needs
 
 same-length-4 : tie.Need-same-length-4
 same-length-4 c = search needs
@@ -56,8 +56,8 @@ same-length-4 c = search needs
 returns-4 : tie.Need-returns-4
 returns-4 c = search needs
 
-pub header-spec : {M : Type 1} → statement M
-header-spec =
+pub read-image-spec : {M : Type 1} → statement M
+read-image-spec =
     tie.close
     (tie.spec
     slice-relend-prefix-read-full
@@ -65,15 +65,15 @@ header-spec =
     read-full-requires
     total-requires
     cast-total
-    refuse-requires
     same-length
     returns
-    refuse-requires-2
     same-length-2
     returns-2
-    refuse-requires-3
     same-length-3
     returns-3
-    image-requires
+    part-read-full-start
+    part-read-full-end
+    read-full-requires-2
+    add-result
     same-length-4
     returns-4)

@@ -1,0 +1,30 @@
+// An image as it comes from a descriptor. What came is the library's to judge; nothing is judged here.
+use records::Header;
+ghost use Prim.Native.Nat.{_≤_};
+ghost use mathlib.Core.Path.{_≡_};
+ghost use lib.ListN.{length};
+ghost use Rattle.records.specs.Sizes.{largest-image};
+
+// The largest image: 64 certificates, 8 cards, 64 executables and 32 actions.
+pub const LARGEST: usize = 2536;
+
+// Reads a header and then the bytes up to the total that it tells, and answers how many came: fewer where the input
+// ends. Behind a header with a total that no image has, nothing more is read.
+pub fn read_image(fd: i32, s: &mut [u8]) -> usize
+    requires { ⌜ length (now s) ≡ largest-image ⌝ }
+    ensures { λ r. ⌜ r ≤ length (now (s .exit)) ⌝ }
+{
+    let got = io::read_full(fd, &mut s[..Header::SIZE]);
+    let total = Header::total(s) as usize;
+    if got < Header::SIZE {
+        return got;
+    }
+    if total < Header::SIZE {
+        return Header::SIZE;
+    }
+    if LARGEST < total {
+        return Header::SIZE;
+    }
+    let more = io::read_full(fd, &mut s[Header::SIZE..total]);
+    Header::SIZE + more
+}
