@@ -36,11 +36,7 @@ fn add(out: &mut [u8], used: usize, text: &[u8]) -> usize
         return 0;
     }
     let at = room(out, used, text.len());
-    let mut i = 0;
-    while i < text.len() {
-        out[at + i] = text[i];
-        i += 1;
-    }
+    stream::put_text(out, at, text);
     at + text.len()
 }
 

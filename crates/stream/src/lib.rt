@@ -1,8 +1,9 @@
-// An image as it comes from a descriptor. What came is the library's to judge; nothing is judged here.
+// What the programs share: an image as it comes from a descriptor, and text put into a buffer. Nothing is judged here.
 use records::Header;
-ghost use Prim.Native.Nat.{_≤_};
+ghost use Prim.Native.Nat.{_+_, _≤_};
 ghost use mathlib.Core.Path.{_≡_};
 ghost use lib.ListN.{length};
+ghost use lib.Seq.{paste};
 ghost use Rattle.records.specs.Sizes.{largest-image};
 
 // The largest image: 64 certificates, 8 cards, 64 executables and 32 actions.
@@ -27,4 +28,16 @@ pub fn read_image(fd: i32, s: &mut [u8]) -> usize
     }
     let more = io::read_full(fd, &mut s[Header::SIZE..total]);
     Header::SIZE + more
+}
+
+// Text put at a place of a buffer that has room for it there.
+pub fn put_text(out: &mut [u8], at: usize, text: &[u8])
+    requires { ⌜ at + length (now text) ≤ length (now out) ⌝ }
+    ensures { λ _. ⌜ now (out .exit) ≡ paste (now (out .entry)) at (now (text .entry)) (length (now (text .entry))) ⌝ }
+{
+    let mut i = 0;
+    while i < text.len() {
+        out[at + i] = text[i];
+        i += 1;
+    }
 }

@@ -1,0 +1,103 @@
+use mathlib.Core.Path.{_≡_}
+use borrow.Author.Needs.{needs}
+use lib.ListN.{length}
+use Prim.Native.Nat.{_-_, _≤_}
+use Rattle.vectors.proofs.all_cases.Statement.{statement}
+use Rattle.vectors.proofs.all_cases.Tie as tie
+
+abbrev Inv-loop : tie.InvT-loop
+Inv-loop list seen₀ run₀ differing₀ i₀ t7 t8 seen run differing i = (length seen ≡ length seen₀) × (i ≤ length list) × (differing ≤ run) × (run ≤ 1000000)
+
+abbrev μ-loop : tie.MeasureT-loop
+μ-loop list seen₀ run₀ differing₀ i₀ t7 t8 seen run differing i = 1000000 - run
+
+loop-holds : tie.Need-loop-holds Inv-loop μ-loop
+loop-holds c = search needs
+
+word-end-requires : tie.Need-word-end-requires Inv-loop μ-loop
+word-end-requires c κs = search needs
+
+sub-case : tie.Need-sub-case Inv-loop μ-loop
+sub-case c = search needs
+
+part-case-start : tie.Need-part-case-start Inv-loop μ-loop
+part-case-start c = search needs
+
+part-case-end : tie.Need-part-case-end Inv-loop μ-loop
+part-case-end c = search needs
+
+case-requires : tie.Need-case-requires Inv-loop μ-loop
+case-requires c κs = search needs
+
+one-if-any-requires : tie.Need-one-if-any-requires Inv-loop μ-loop
+one-if-any-requires c κs = search needs
+
+add-differing : tie.Need-add-differing Inv-loop μ-loop
+add-differing c = search needs
+
+add-run : tie.Need-add-run Inv-loop μ-loop
+add-run c = search needs
+
+find-requires : tie.Need-find-requires Inv-loop μ-loop
+find-requires c κs = search needs
+
+after-requires : tie.Need-after-requires Inv-loop μ-loop
+after-requires c κs = search needs
+
+loop-less : tie.Need-loop-less Inv-loop μ-loop
+loop-less c = search needs
+
+loop-again : tie.Need-loop-again Inv-loop μ-loop
+loop-again c = search needs
+
+say-number-requires : tie.Need-say-number-requires Inv-loop μ-loop
+say-number-requires c κs = search needs
+
+slice-aggregate-say : tie.Need-slice-aggregate-say Inv-loop μ-loop
+slice-aggregate-say c = search needs
+
+say-requires : tie.Need-say-requires Inv-loop μ-loop
+say-requires c κs = search needs
+
+say-number-requires-2 : tie.Need-say-number-requires-2 Inv-loop μ-loop
+say-number-requires-2 c κs = search needs
+
+slice-aggregate-say-2 : tie.Need-slice-aggregate-say-2 Inv-loop μ-loop
+slice-aggregate-say-2 c = search needs
+
+say-requires-2 : tie.Need-say-requires-2 Inv-loop μ-loop
+say-requires-2 c κs = search needs
+
+same-length : tie.Need-same-length Inv-loop μ-loop
+same-length c = search needs
+
+returns : tie.Need-returns Inv-loop μ-loop
+returns c = search needs
+
+pub all-cases-spec : {M : Type 1} → statement M
+all-cases-spec =
+    tie.close
+    (tie.spec
+    Inv-loop
+    μ-loop
+    loop-holds
+    word-end-requires
+    sub-case
+    part-case-start
+    part-case-end
+    case-requires
+    one-if-any-requires
+    add-differing
+    add-run
+    find-requires
+    after-requires
+    loop-less
+    loop-again
+    say-number-requires
+    slice-aggregate-say
+    say-requires
+    say-number-requires-2
+    slice-aggregate-say-2
+    say-requires-2
+    same-length
+    returns)

@@ -1,0 +1,592 @@
+// Runs the stored cases of its folder through the library and says what differs, by case, event and field. The file
+// `cases` names them, one to a line; NAME.in is a stream, NAME.out what `bench` writes for it and NAME.fin the image
+// afterwards.
+use libc::STDOUT_FILENO;
+use records::Card;
+use records::Certificate;
+use records::Event;
+use records::Executable;
+use records::Header;
+use records::Row;
+ghost use Prim.Native.Nat.{_≤_, _<_, min};
+ghost use mathlib.Core.Path.{_≡_};
+ghost use lib.ListN.{length};
+ghost use Rattle.records.specs.Sizes.{largest-image, header-size};
+
+const MOST_CASES: u64 = 1000000;
+// A case has no more events than this.
+const MOST_EVENTS: usize = 65536;
+
+const ANSWER_SIZE: usize = 3;
+
+const KINDS: usize = 16;
+
+const CODES: usize = 17;
+// Behind the counts by kind and code: those by domain and links, of verified applications and of granted requests.
+const VERIFIED: usize = 272;
+
+const GRANTED: usize = 292;
+
+const COUNTS: usize = 312;
+
+const NEWLINE: u8 = 10;
+
+const SPACE: u8 = 32;
+
+fn say(text: &[u8]) {
+    io::write_all(STDOUT_FILENO, text);
+}
+
+fn say_number(n: u64) {
+    io::print_decimal(STDOUT_FILENO, n);
+}
+
+// ---- text
+
+fn least(a: usize, b: usize) -> usize
+    ensures { λ r. ⌜ r ≡ min a b ⌝ }
+{
+    if a < b {
+        return a;
+    }
+    b
+}
+
+// Where the first c from `from` on stands, or the end of the text.
+fn find(text: &[u8], from: usize, c: u8) -> usize
+    requires { ⌜ from ≤ length (now text) ⌝ }
+    ensures { λ r. ⌜ (from ≤ r) × (r ≤ length (now (text .entry))) ⌝ }
+{
+    let mut i = from;
+    while i < text.len() && text[i] != c {
+        i += 1;
+    }
+    i
+}
+
+// Where the word at `from` ends: at a space, or with its line.
+fn word_end(text: &[u8], from: usize) -> usize
+    requires { ⌜ from ≤ length (now text) ⌝ }
+    ensures { λ r. ⌜ (from ≤ r) × (r ≤ length (now (text .entry))) ⌝ }
+{
+    least(find(text, from, SPACE), find(text, from, NEWLINE))
+}
+
+// The place behind i, or the end.
+fn after(text: &[u8], i: usize) -> usize
+    requires { ⌜ i ≤ length (now text) ⌝ }
+    ensures { λ r. ⌜ (i ≤ r) × (r ≤ length (now (text .entry))) ⌝ }
+{
+    if i < text.len() {
+        return i + 1;
+    }
+    i
+}
+
+fn digit(c: u8) -> u64
+    ensures { λ r. ⌜ r ≤ 255 ⌝ }
+{
+    if c < 48 {
+        return 0;
+    }
+    (c - 48) as u64
+}
+
+// The number that stands from `from` to `end`; of a longer one than any here, its last twelve digits.
+fn value(text: &[u8], from: usize, end: usize) -> u64
+    requires { ⌜ (from ≤ end) × (end ≤ length (now text)) ⌝ }
+{
+    let mut n: u64 = 0;
+    let mut i = from;
+    while i < end {
+        n = (n * 10 + digit(text[i])) % 1000000000000;
+        i += 1;
+    }
+    n
+}
+
+// A number, and the place behind it and behind what parts it from the next.
+struct Found {
+    value: u64,
+    end: usize,
+}
+
+fn find_number(text: &[u8], from: usize) -> Found
+    requires { ⌜ from ≤ length (now text) ⌝ }
+    ensures { λ r. ⌜ r .end ≤ length (now (text .entry)) ⌝ }
+{
+    let end = word_end(text, from);
+    let n = value(text, from, end);
+    let next = after(text, end);
+    Found {
+        value: n,
+        end: next,
+    }
+}
+
+// ---- files
+
+// Where a path that goes on with text ends; one that is too long ends where it did.
+fn append(path: &mut [u8], from: usize, text: &[u8]) -> usize
+    requires { ⌜ from ≤ length (now path) ⌝ }
+    ensures { λ r. ⌜ r ≤ length (now (path .exit)) ⌝ }
+{
+    if path.len() - from < text.len() {
+        return from;
+    }
+    stream::put_text(path, from, text);
+    from + text.len()
+}
+
+// A file of the case, opened, or -1.
+fn open_part(name: &[u8], part: &[u8]) -> i32 {
+    let mut path = io::buffer();
+    let named = append(&mut path, 0, name);
+    let ended = append(&mut path, named, part);
+    os::open_read(&path[..ended])
+}
+
+// All that the file still has, as far as there is room; nothing of a file that is not there.
+fn read_rest(fd: i32, buf: &mut [u8]) -> usize
+    ensures { λ r. ⌜ r ≤ length (now (buf .exit)) ⌝ }
+{
+    let got = io::read_full(fd, buf);
+    libc::close(fd);
+    got
+}
+
+// ---- counts
+
+fn count(seen: &mut [u64], i: usize) {
+    if seen.len() <= i {
+        return;
+    }
+    if seen[i] < 1000000000 {
+        seen[i] += 1;
+    }
+}
+
+// Kinds that are none are counted as kind 0.
+fn row(kind: u8) -> usize
+    ensures { λ r. ⌜ r < 16 ⌝ }
+{
+    if 15 < kind {
+        return 0;
+    }
+    kind as usize
+}
+
+// Where a done event is counted by its domain and links: behind all counts where it has none.
+fn chain_row(kind: u8, code: u8) -> usize
+    ensures { λ r. ⌜ r ≤ 312 ⌝ }
+{
+    if code != 0 {
+        return COUNTS;
+    }
+    if kind == 12 {
+        return VERIFIED;
+    }
+    if kind == 15 {
+        return GRANTED;
+    }
+    COUNTS
+}
+
+fn count_answer(seen: &mut [u64], kind: u8, code: u8, domain: u8, links: u8) {
+    count(seen, row(kind) * CODES + code as usize);
+    count(
+        seen,
+        chain_row(kind, code) + domain as usize * 5 + links as usize,
+    );
+}
+
+// ---- what differs
+
+fn tell(name: &[u8], what: &[u8], n: u64) {
+    say(b"case ");
+    say(name);
+    say(what);
+    say_number(n);
+}
+
+fn tell_case(name: &[u8], what: &[u8]) -> u64
+    ensures { λ r. ⌜ r ≤ 1 ⌝ }
+{
+    say(b"case ");
+    say(name);
+    say(what);
+    1
+}
+
+fn tell_values(got: u64, want: u64) {
+    say_number(got);
+    say(b", expected ");
+    say_number(want);
+    say(b"\n");
+}
+
+fn tell_bytes(got: u8, want: u8) {
+    tell_values(got as u64, want as u64);
+}
+
+// 1 where the field of the n-th event is not as expected.
+fn field_differs(name: &[u8], n: u64, field: &[u8], got: u64, want: u64) -> u64
+    ensures { λ r. ⌜ r ≤ 1 ⌝ }
+{
+    if got == want {
+        return 0;
+    }
+    tell(name, b" event ", n);
+    say(field);
+    tell_values(got, want);
+    1
+}
+
+// Whether an event's line differs in some field, and the place behind the line.
+struct Line {
+    differs: u64,
+    end: usize,
+}
+
+fn line_differs(
+    name: &[u8],
+    want: &[u8],
+    from: usize,
+    n: u64,
+    kind: u8,
+    code: u8,
+    domain: u8,
+    links: u8,
+) -> Line
+    requires { ⌜ from ≤ length (now want) ⌝ }
+    ensures { λ r. ⌜ (r .differs ≤ 5) × (r .end ≤ length (now (want .entry))) ⌝ }
+{
+    let numbered = find_number(want, from);
+    let kinded = find_number(want, numbered.end);
+    let coded = find_number(want, kinded.end);
+    let placed = find_number(want, coded.end);
+    let linked = find_number(want, placed.end);
+    let a = field_differs(name, n, b" number ", n, numbered.value);
+    let b = field_differs(name, n, b" kind ", kind as u64, kinded.value);
+    let c = field_differs(name, n, b" code ", code as u64, coded.value);
+    let d = field_differs(name, n, b" domain ", domain as u64, placed.value);
+    let e = field_differs(name, n, b" links ", links as u64, linked.value);
+    Line {
+        differs: a + b + c + d + e,
+        end: linked.end,
+    }
+}
+
+// The first byte of the i-th event.
+fn kind_of(events: &[u8], i: usize) -> u8
+    requires { ⌜ i < 65536 ⌝ }
+{
+    let at = i * Event::SIZE;
+    if at < events.len() {
+        return events[at];
+    }
+    0
+}
+
+// Byte j of the i-th answer.
+fn told(answers: &[u8], i: usize, j: usize) -> u8
+    requires { ⌜ (i < 65536) × (j < 3) ⌝ }
+{
+    let at = i * ANSWER_SIZE + j;
+    if at < answers.len() {
+        return answers[at];
+    }
+    0
+}
+
+// The answers of a run beside its lines, and that there are as many of the one as of the other.
+fn answers_differ(
+    name: &[u8],
+    events: &[u8],
+    answers: &[u8],
+    n: usize,
+    want: &[u8],
+    from: usize,
+    seen: &mut [u64],
+) -> u64
+    requires { ⌜ (n ≤ 65536) × (from ≤ length (now want)) ⌝ }
+    ensures { λ r. ⌜ r ≤ 400000 ⌝ }
+{
+    let mut at = from;
+    let mut differing: u64 = 0;
+    let mut i = 0;
+    while i < n {
+        let kind = kind_of(events, i);
+        let code = told(answers, i, 0);
+        let domain = told(answers, i, 1);
+        let links = told(answers, i, 2);
+        count_answer(seen, kind, code, domain, links);
+        let line = line_differs(name, want, at, i as u64 + 1, kind, code, domain, links);
+        at = line.end;
+        differing += line.differs;
+        i += 1;
+    }
+    if at == want.len() {
+        return differing;
+    }
+    tell(name, b" event ", n as u64 + 1);
+    say(b" is expected, and does not come\n");
+    differing + 1
+}
+
+// ---- the image afterwards
+
+// The part of an image that holds byte `at`, as the offsets of its header say, and the record and the byte in it.
+fn tell_record(part: &[u8], at: usize, size: usize)
+    requires { ⌜ 0 < size ⌝ }
+{
+    say(part);
+    say_number((at / size) as u64);
+    say(b" byte ");
+    say_number((at % size) as u64);
+}
+
+fn tell_part(image: &[u8], at: usize)
+    requires { ⌜ header-size ≤ length (now image) ⌝ }
+{
+    let certificates = Header::certificates_at(image) as usize;
+    let cards = Header::cards_at(image) as usize;
+    let executables = Header::executables_at(image) as usize;
+    let table = Header::table_at(image) as usize;
+    if at < certificates {
+        tell_record(b" header ", at, Header::SIZE);
+        return;
+    }
+    if at < cards {
+        tell_record(b" certificate ", at - certificates, Certificate::SIZE);
+        return;
+    }
+    if at < executables {
+        tell_record(b" card ", at - cards, Card::SIZE);
+        return;
+    }
+    if at < table {
+        tell_record(b" executable ", at - executables, Executable::SIZE);
+        return;
+    }
+    tell_record(b" action ", at - table, Row::SIZE);
+}
+
+// The first place at which two buffers differ, or the shorter one's end.
+fn first_difference(a: &[u8], b: &[u8]) -> usize
+    ensures { λ r. ⌜ (r ≤ length (now (a .entry))) × (r ≤ length (now (b .entry))) ⌝ }
+{
+    let n = least(a.len(), b.len());
+    let mut i = 0;
+    while i < n && a[i] == b[i] {
+        i += 1;
+    }
+    i
+}
+
+// 1 where the image is not the stored one: its first byte that differs, by its record.
+fn image_differs(name: &[u8], image: &[u8], fin: &[u8]) -> u64
+    requires { ⌜ header-size ≤ length (now image) ⌝ }
+    ensures { λ r. ⌜ r ≤ 1 ⌝ }
+{
+    if image.len() != fin.len() {
+        tell_case(name, b" image length ");
+        tell_values(image.len() as u64, fin.len() as u64);
+        return 1;
+    }
+    let at = first_difference(image, fin);
+    if at == image.len() {
+        return 0;
+    }
+    tell_case(name, b" image");
+    tell_part(image, at);
+    say(b" is ");
+    tell_bytes(image[at], fin[at]);
+    1
+}
+
+// ---- a case
+
+// Whether the lines behind the first say that the image is refused, and nothing else.
+fn expects_refusal(want: &[u8], from: usize) -> bool
+    requires { ⌜ from ≤ length (now want) ⌝ }
+{
+    let at = first_difference(&want[from..], b"image 1\n");
+    at == 8 && want.len() - from == 8
+}
+
+fn accepted_differs(
+    name: &[u8],
+    image: &mut [u8],
+    events: &[u8],
+    want: &[u8],
+    from: usize,
+    fin: &[u8],
+    seen: &mut [u64],
+) -> u64
+    requires { ⌜ header-size ≤ length (now image) ⌝ }
+    requires { ⌜ from ≤ length (now want) ⌝ }
+    ensures { λ r. ⌜ r ≤ 400001 ⌝ }
+{
+    let mut answers = io::large_buffer();
+    let n = monitor::monitor_run(image, events, &mut answers);
+    if MOST_EVENTS < n {
+        return tell_case(name, b" has too many events\n");
+    }
+    let told = answers_differ(name, events, &answers, n, want, from, seen);
+    let kept = image_differs(name, image, fin);
+    told + kept
+}
+
+// How many fields of the case differ.
+fn differences(
+    name: &[u8],
+    image: &mut [u8],
+    events: &[u8],
+    want: &[u8],
+    fin: &[u8],
+    seen: &mut [u64],
+) -> u64
+    ensures { λ r. ⌜ r ≤ 400001 ⌝ }
+{
+    let first = find(want, 0, NEWLINE);
+    let from = after(want, first);
+    let to_refuse = expects_refusal(want, from);
+    let refused = monitor::monitor_open(image) != 0;
+    if refused && to_refuse {
+        return 0;
+    }
+    if refused {
+        return tell_case(name, b" image is refused, and expected to be accepted\n");
+    }
+    if to_refuse {
+        return tell_case(name, b" image is accepted, and expected to be refused\n");
+    }
+    if image.len() < Header::SIZE {
+        return tell_case(name, b" image is accepted, and shorter than a header\n");
+    }
+    accepted_differs(name, image, events, want, from, fin, seen)
+}
+
+// A case by its name: its files are read, and it is run.
+fn case(name: &[u8], seen: &mut [u64]) -> u64
+    ensures { λ r. ⌜ r ≤ 400001 ⌝ }
+{
+    let given = open_part(name, b".in");
+    if given < 0 {
+        return tell_case(name, b".in cannot be read\n");
+    }
+    let expected = open_part(name, b".out");
+    if expected < 0 {
+        return tell_case(name, b".out cannot be read\n");
+    }
+    let mut image = [0u8; 2536];
+    let mut events = io::large_buffer();
+    let mut want = io::large_buffer();
+    let mut fin = io::buffer();
+    let i = stream::read_image(given, &mut image);
+    let e = read_rest(given, &mut events);
+    let w = read_rest(expected, &mut want);
+    let kept = open_part(name, b".fin");
+    let f = read_rest(kept, &mut fin);
+    differences(
+        name,
+        &mut image[..i],
+        &events[..e],
+        &want[..w],
+        &fin[..f],
+        seen,
+    )
+}
+
+// ---- all of them
+
+fn say_count(a: usize, b: usize, times: u64) {
+    if times == 0 {
+        return;
+    }
+    say_number(a as u64);
+    say(b" ");
+    say_number(b as u64);
+    say(b" ");
+    say_number(times);
+    say(b"\n");
+}
+
+fn at(seen: &[u64], i: usize) -> u64 {
+    if i < seen.len() {
+        return seen[i];
+    }
+    0
+}
+
+// One line for each of `columns` counts that is not 0.
+fn say_row(seen: &[u64], from: usize, row: usize, columns: usize)
+    requires { ⌜ (from ≤ 1000) × (columns ≤ 17) ⌝ }
+{
+    let mut j = 0;
+    while j < columns {
+        say_count(row, j, at(seen, from + j));
+        j += 1;
+    }
+}
+
+fn say_table(seen: &[u64], from: usize, rows: usize, columns: usize)
+    requires { ⌜ (from ≤ 300) × (rows ≤ 16) × (columns ≤ 17) ⌝ }
+{
+    let mut at = from;
+    let mut i = 0;
+    while i < rows {
+        say_row(seen, at, i, columns);
+        at += columns;
+        i += 1;
+    }
+}
+
+// What the cases covered.
+fn report(seen: &[u64]) {
+    say(b"kind code times\n");
+    say_table(seen, 0, KINDS, CODES);
+    say(b"verified: domain links times\n");
+    say_table(seen, VERIFIED, 4, 5);
+    say(b"granted: domain links times\n");
+    say_table(seen, GRANTED, 4, 5);
+}
+
+fn one_if_any(n: u64) -> u64
+    ensures { λ r. ⌜ r ≤ 1 ⌝ }
+{
+    if n == 0 {
+        return 0;
+    }
+    1
+}
+
+fn all_cases(list: &[u8], seen: &mut [u64]) {
+    let mut run: u64 = 0;
+    let mut differing: u64 = 0;
+    let mut i = 0;
+    while run < MOST_CASES && i < list.len() {
+        let end = word_end(list, i);
+        differing += one_if_any(case(&list[i..end], seen));
+        run += 1;
+        i = after(list, find(list, i, NEWLINE));
+    }
+    say_number(run);
+    say(b" cases, ");
+    say_number(differing);
+    say(b" differ\n");
+}
+
+fn main() {
+    let cases = os::open_read(b"cases");
+    if cases < 0 {
+        os::fail(b"cases");
+        return;
+    }
+    let mut list = io::large_buffer();
+    let n = read_rest(cases, &mut list);
+    let mut seen = [0u64; COUNTS];
+    all_cases(&list[..n], &mut seen);
+    report(&seen);
+}
