@@ -140,7 +140,7 @@ fn append(path: &mut [u8], from: usize, text: &[u8]) -> usize
 
 // A file of the case, opened, or -1.
 fn open_part(name: &[u8], part: &[u8]) -> i32 {
-    let mut path = io::buffer();
+    let mut path = [0u8; 256];
     let named = append(&mut path, 0, name);
     let ended = append(&mut path, named, part);
     os::open_read(&path[..ended])
@@ -422,18 +422,18 @@ fn accepted_differs(
     want: &[u8],
     from: usize,
     fin: &[u8],
+    answers: &mut [u8],
     seen: &mut [u64],
 ) -> u64
     requires { ⌜ header-size ≤ length (now image) ⌝ }
     requires { ⌜ from ≤ length (now want) ⌝ }
     ensures { λ r. ⌜ r ≤ 400001 ⌝ }
 {
-    let mut answers = io::large_buffer();
-    let n = monitor::monitor_run(image, events, &mut answers);
+    let n = monitor::monitor_run(image, events, answers);
     if MOST_EVENTS < n {
         return tell_case(name, b" has too many events\n");
     }
-    let told = answers_differ(name, events, &answers, n, want, from, seen);
+    let told = answers_differ(name, events, answers, n, want, from, seen);
     let kept = image_differs(name, image, fin);
     told + kept
 }
@@ -445,6 +445,7 @@ fn differences(
     events: &[u8],
     want: &[u8],
     fin: &[u8],
+    answers: &mut [u8],
     seen: &mut [u64],
 ) -> u64
     ensures { λ r. ⌜ r ≤ 400001 ⌝ }
@@ -465,11 +466,20 @@ fn differences(
     if image.len() < Header::SIZE {
         return tell_case(name, b" image is accepted, and shorter than a header\n");
     }
-    accepted_differs(name, image, events, want, from, fin, seen)
+    accepted_differs(name, image, events, want, from, fin, answers, seen)
 }
 
-// A case by its name: its files are read, and it is run.
-fn case(name: &[u8], seen: &mut [u64]) -> u64
+// A case by its name: its files are read into the buffers, and it is run.
+fn case(
+    name: &[u8],
+    image: &mut [u8],
+    events: &mut [u8],
+    want: &mut [u8],
+    fin: &mut [u8],
+    answers: &mut [u8],
+    seen: &mut [u64],
+) -> u64
+    requires { ⌜ length (now image) ≡ largest-image ⌝ }
     ensures { λ r. ⌜ r ≤ 400001 ⌝ }
 {
     let given = open_part(name, b".in");
@@ -480,21 +490,18 @@ fn case(name: &[u8], seen: &mut [u64]) -> u64
     if expected < 0 {
         return tell_case(name, b".out cannot be read\n");
     }
-    let mut image = [0u8; 2536];
-    let mut events = io::large_buffer();
-    let mut want = io::large_buffer();
-    let mut fin = io::buffer();
-    let i = stream::read_image(given, &mut image);
-    let e = read_rest(given, &mut events);
-    let w = read_rest(expected, &mut want);
+    let i = stream::read_image(given, image);
+    let e = read_rest(given, events);
+    let w = read_rest(expected, want);
     let kept = open_part(name, b".fin");
-    let f = read_rest(kept, &mut fin);
+    let f = read_rest(kept, fin);
     differences(
         name,
         &mut image[..i],
         &events[..e],
         &want[..w],
         &fin[..f],
+        answers,
         seen,
     )
 }
@@ -562,13 +569,23 @@ fn one_if_any(n: u64) -> u64
     1
 }
 
-fn all_cases(list: &[u8], seen: &mut [u64]) {
+fn all_cases(
+    list: &[u8],
+    image: &mut [u8],
+    events: &mut [u8],
+    want: &mut [u8],
+    fin: &mut [u8],
+    answers: &mut [u8],
+    seen: &mut [u64],
+)
+    requires { ⌜ length (now image) ≡ largest-image ⌝ }
+{
     let mut run: u64 = 0;
     let mut differing: u64 = 0;
     let mut i = 0;
     while run < MOST_CASES && i < list.len() {
         let end = word_end(list, i);
-        differing += one_if_any(case(&list[i..end], seen));
+        differing += one_if_any(case(&list[i..end], image, events, want, fin, answers, seen));
         run += 1;
         i = after(list, find(list, i, NEWLINE));
     }
@@ -586,7 +603,20 @@ fn main() {
     }
     let mut list = io::large_buffer();
     let n = read_rest(cases, &mut list);
+    let mut image = [0u8; 2536];
+    let mut events = io::large_buffer();
+    let mut want = io::large_buffer();
+    let mut fin = io::buffer();
+    let mut answers = io::large_buffer();
     let mut seen = [0u64; COUNTS];
-    all_cases(&list[..n], &mut seen);
+    all_cases(
+        &list[..n],
+        &mut image,
+        &mut events,
+        &mut want,
+        &mut fin,
+        &mut answers,
+        &mut seen,
+    );
     report(&seen);
 }

@@ -1,4 +1,5 @@
-use mathlib.Core.Path.{_≡_}
+use mathlib.Core.Path.{sym, _≡_}
+use lib.Seq.{length-take-le}
 use borrow.Author.Needs.{needs}
 use lib.ListN.{length}
 use Prim.Native.Nat.{_-_, _≤_}
@@ -6,10 +7,10 @@ use Rattle.vectors.proofs.all_cases.Statement.{statement}
 use Rattle.vectors.proofs.all_cases.Tie as tie
 
 abbrev Inv-loop : tie.InvT-loop
-Inv-loop list seen₀ run₀ differing₀ i₀ t7 t8 seen run differing i = (length seen ≡ length seen₀) × (i ≤ length list) × (differing ≤ run) × (run ≤ 1000000)
+Inv-loop list image₀ events₀ want₀ fin₀ answers₀ seen₀ run₀ differing₀ i₀ t12 t13 image events want fin answers seen run differing i = (length image ≡ length image₀) × (length events ≡ length events₀) × (length want ≡ length want₀) × (length fin ≡ length fin₀) × (length answers ≡ length answers₀) × (length seen ≡ length seen₀) × (i ≤ length list) × (differing ≤ run) × (run ≤ 1000000)
 
 abbrev μ-loop : tie.MeasureT-loop
-μ-loop list seen₀ run₀ differing₀ i₀ t7 t8 seen run differing i = 1000000 - run
+μ-loop list image₀ events₀ want₀ fin₀ answers₀ seen₀ run₀ differing₀ i₀ t12 t13 image events want fin answers seen run differing i = 1000000 - run
 
 loop-holds : tie.Need-loop-holds Inv-loop μ-loop
 loop-holds c = search needs
@@ -71,6 +72,21 @@ say-requires-2 c κs = search needs
 same-length : tie.Need-same-length Inv-loop μ-loop
 same-length c = search needs
 
+same-length-2 : tie.Need-same-length-2 Inv-loop μ-loop
+same-length-2 c = search needs
+
+same-length-3 : tie.Need-same-length-3 Inv-loop μ-loop
+same-length-3 c = search needs
+
+same-length-4 : tie.Need-same-length-4 Inv-loop μ-loop
+same-length-4 c = search needs
+
+same-length-5 : tie.Need-same-length-5 Inv-loop μ-loop
+same-length-5 c = search needs
+
+same-length-6 : tie.Need-same-length-6 Inv-loop μ-loop
+same-length-6 c = search needs
+
 returns : tie.Need-returns Inv-loop μ-loop
 returns c = search needs
 
@@ -100,4 +116,9 @@ all-cases-spec =
     slice-aggregate-say-2
     say-requires-2
     same-length
+    same-length-2
+    same-length-3
+    same-length-4
+    same-length-5
+    same-length-6
     returns)

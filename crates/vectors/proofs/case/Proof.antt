@@ -34,29 +34,11 @@ tell-case-requires-2 c κs = search needs
 returns-2 : tie.Need-returns-2
 returns-2 c = search needs
 
-large-buffer-requires : tie.Need-large-buffer-requires
-large-buffer-requires c κs = search needs
-
-large-buffer-requires-2 : tie.Need-large-buffer-requires-2
-large-buffer-requires-2 c κs = search needs
-
-buffer-requires : tie.Need-buffer-requires
-buffer-requires c κs = search needs
-
-slice-aggregate-read-image : tie.Need-slice-aggregate-read-image
-slice-aggregate-read-image c = search needs
-
 read-image-requires : tie.Need-read-image-requires
 read-image-requires c κs = search needs
 
-slice-aggregate-read-rest : tie.Need-slice-aggregate-read-rest
-slice-aggregate-read-rest c = search needs
-
 read-rest-requires : tie.Need-read-rest-requires
 read-rest-requires c κs = search needs
-
-slice-aggregate-read-rest-2 : tie.Need-slice-aggregate-read-rest-2
-slice-aggregate-read-rest-2 c = search needs
 
 read-rest-requires-2 : tie.Need-read-rest-requires-2
 read-rest-requires-2 c κs = search needs
@@ -67,32 +49,29 @@ slice-aggregate-open-part-3 c = search needs
 open-part-requires-3 : tie.Need-open-part-requires-3
 open-part-requires-3 c κs = search needs
 
-slice-aggregate-read-rest-3 : tie.Need-slice-aggregate-read-rest-3
-slice-aggregate-read-rest-3 c = search needs
-
 read-rest-requires-3 : tie.Need-read-rest-requires-3
 read-rest-requires-3 c κs = search needs
 
-array-borrow-prefix-image : tie.Need-array-borrow-prefix-image
-array-borrow-prefix-image c = search needs
+slice-relend-prefix-differences : tie.Need-slice-relend-prefix-differences
+slice-relend-prefix-differences c = search needs
 
 slice-aggregate-differences : tie.Need-slice-aggregate-differences
 slice-aggregate-differences c = sym (length-take-le _ _ (search needs))
 
-array-share-prefix-events : tie.Need-array-share-prefix-events
-array-share-prefix-events c = search needs
+slice-reshare-prefix-differences : tie.Need-slice-reshare-prefix-differences
+slice-reshare-prefix-differences c = search needs
 
 slice-aggregate-differences-2 : tie.Need-slice-aggregate-differences-2
 slice-aggregate-differences-2 c = sym (length-take-le _ _ (search needs))
 
-array-share-prefix-want : tie.Need-array-share-prefix-want
-array-share-prefix-want c = search needs
+slice-reshare-prefix-differences-2 : tie.Need-slice-reshare-prefix-differences-2
+slice-reshare-prefix-differences-2 c = search needs
 
 slice-aggregate-differences-3 : tie.Need-slice-aggregate-differences-3
 slice-aggregate-differences-3 c = sym (length-take-le _ _ (search needs))
 
-array-share-prefix-fin : tie.Need-array-share-prefix-fin
-array-share-prefix-fin c = search needs
+slice-reshare-prefix-differences-3 : tie.Need-slice-reshare-prefix-differences-3
+slice-reshare-prefix-differences-3 c = search needs
 
 slice-aggregate-differences-4 : tie.Need-slice-aggregate-differences-4
 slice-aggregate-differences-4 c = sym (length-take-le _ _ (search needs))
@@ -102,6 +81,21 @@ differences-requires c κs = search needs
 
 same-length : tie.Need-same-length
 same-length c = search needs
+
+same-length-2 : tie.Need-same-length-2
+same-length-2 c = search needs
+
+same-length-3 : tie.Need-same-length-3
+same-length-3 c = search needs
+
+same-length-4 : tie.Need-same-length-4
+same-length-4 c = search needs
+
+same-length-5 : tie.Need-same-length-5
+same-length-5 c = search needs
+
+same-length-6 : tie.Need-same-length-6
+same-length-6 c = search needs
 
 returns-3 : tie.Need-returns-3
 returns-3 c = search needs
@@ -120,27 +114,25 @@ case-spec =
     slice-aggregate-tell-case-2
     tell-case-requires-2
     returns-2
-    large-buffer-requires
-    large-buffer-requires-2
-    buffer-requires
-    slice-aggregate-read-image
     read-image-requires
-    slice-aggregate-read-rest
     read-rest-requires
-    slice-aggregate-read-rest-2
     read-rest-requires-2
     slice-aggregate-open-part-3
     open-part-requires-3
-    slice-aggregate-read-rest-3
     read-rest-requires-3
-    array-borrow-prefix-image
+    slice-relend-prefix-differences
     slice-aggregate-differences
-    array-share-prefix-events
+    slice-reshare-prefix-differences
     slice-aggregate-differences-2
-    array-share-prefix-want
+    slice-reshare-prefix-differences-2
     slice-aggregate-differences-3
-    array-share-prefix-fin
+    slice-reshare-prefix-differences-3
     slice-aggregate-differences-4
     differences-requires
     same-length
+    same-length-2
+    same-length-3
+    same-length-4
+    same-length-5
+    same-length-6
     returns-3)

@@ -4,9 +4,6 @@ use borrow.Author.Needs.{needs}
 use Rattle.vectors.proofs.open_part.Statement.{statement}
 use Rattle.vectors.proofs.open_part.Tie as tie
 
-buffer-requires : tie.Need-buffer-requires
-buffer-requires c κs = search needs
-
 slice-aggregate-append : tie.Need-slice-aggregate-append
 slice-aggregate-append c = search needs
 
@@ -35,7 +32,6 @@ pub open-part-spec : {M : Type 1} → statement M
 open-part-spec =
     tie.close
     (tie.spec
-    buffer-requires
     slice-aggregate-append
     append-requires
     slice-aggregate-append-2

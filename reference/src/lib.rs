@@ -1,0 +1,16 @@
+//! A plain reference of the phone monitor, written from the specification ("01") alone.
+//!
+//! Nothing here is proved and nothing is shared with the proved side: the value of this
+//! crate is that it was written apart, so that a difference between the two means something.
+
+pub mod bench;
+pub mod chain;
+pub mod check;
+pub mod events;
+pub mod fuzz;
+pub mod generate;
+pub mod image_rules;
+pub mod phone;
+pub mod random;
+pub mod text;
+pub mod vectors;
