@@ -35,7 +35,7 @@ use Rattle.demands.proofs.Settle.{over-settle}
 -- ---- certificates
 
 -- a new one in a free slot: what stood there was good for nothing
-more-filled : (p : Phone) → Accepted p → (c : Certificate) → Fewer (p .trust) (with-certificates (fill free-certificate c (p .trust .certificates)) p .trust)
+pub more-filled : (p : Phone) → Accepted p → (c : Certificate) → Fewer (p .trust) (with-certificates (fill free-certificate c (p .trust .certificates)) p .trust)
 more-filled p ok new = fewer-by (p .trust) filled (λ c m. by-test (free-certificate c) (λ t. replaced c m t) (λ n. kept c m n))
   where
     s : Seen
@@ -61,7 +61,7 @@ more-filled p ok new = fewer-by (p .trust) filled (λ c m. by-test (free-certifi
         record { certificate = c; mem = fill-keeps free-certificate new (p .trust .certificates) c m n; narrows = narrows-refl s c }
 
 -- a root marked valid that is no operator root on a card: no other mark changes
-marking-widens : (s : Seen) (n : ℕ) (r c : Certificate) → T (not (on-a-card r)) → Narrows s s c (after-marking n r c)
+pub marking-widens : (s : Seen) (n : ℕ) (r c : Certificate) → T (not (on-a-card r)) → Narrows s s c (after-marking n r c)
 unfolding after-marking
 marking-widens s n r c h = go (has-id n c) (on-a-card r) h
   where
@@ -75,7 +75,7 @@ enabled : (e : Event) (c : Certificate) → e .third ≡ 1 → enabled-by e c �
 unfolding enabled-by
 enabled e c h = subst (λ m. _≡_ {A = ℕ} (cond (eqb m 1 || (eqb m 2 && any (eqb (c .id)) (listed e))) 1 0) 1) (sym h) refl
 
-enabling-widens : (s : Seen) (e : Event) (c : Certificate) → e .third ≡ 1 → Narrows s s c (at third-party-root (λ c. enabling (enabled-by e c) c) c)
+pub enabling-widens : (s : Seen) (e : Event) (c : Certificate) → e .third ≡ 1 → Narrows s s c (at third-party-root (λ c. enabling (enabled-by e c) c) c)
 enabling-widens s e c h =
     at-cases (λ hi lo. Narrows s s lo hi) third-party-root (λ c. enabling (enabled-by e c) c) c
     (λ t. narrows-marked s c (c .mark) (c .enabled) (c .mark) (enabled-by e c) (λ m. m) (λ m. enabled e c h))

@@ -57,7 +57,7 @@ mapped-framed f {s} {s₁} {slot} g h w =
 module _ {s : List ℕ} {slot : ℕ} (e : Event) (a : Accepted-image s) (place : slot ≡ first-place (has-id (e .id)) (decode s .trust .certificates))
     (there : slot < length (decode s .trust .certificates)) (nz : 0 < e .id) where
   -- the certificate that the event names is what stands in the slot
-  named : (b : Bool) {c : Certificate} → c ≡ certificate-at (decode s) slot → on-a-card c ≡ b → on-a-card (certificate-named (decode s) (e .id)) ≡ b
+  pub named : (b : Bool) {c : Certificate} → c ≡ certificate-at (decode s) slot → on-a-card c ≡ b → on-a-card (certificate-named (decode s) (e .id)) ≡ b
   unfolding certificate-named
   named b q h =
       ap on-a-card (find-there (has-id (e .id)) no-certificate (decode s .trust .certificates) slot place there ∙ sym q) ∙ h

@@ -17,7 +17,7 @@ ghost use Rattle.rules.specs.Chains.{chain-of};
 ghost use Rattle.rules.specs.ImageRules.{free-certificate, third-party-root};
 ghost use Rattle.rules.specs.Forms.{listed};
 ghost use Rattle.rules.specs.Codes.{has-id, is-executable};
-ghost use Rattle.rules.specs.Effects.{tick, card-rule, card-in, card-out, power-up, delete-certificate, mark-valid, mark-invalid, enabled-by, message, install-executable, delete-executable, verify, give, withdraw, settled, settle};
+ghost use Rattle.rules.specs.Effects.{tick, card-rule, card-in, card-out, power-up, delete-certificate, on-a-card, mark-valid, mark-invalid, enabled-by, message, install-executable, delete-executable, verify, give, withdraw, settled, settle};
 ghost use Rattle.chain.specs.Table.{Counted};
 ghost use Rattle.lookup.specs.Places.{first-place};
 ghost use Rattle.opening.specs.Opened.{Accepted-image};
@@ -118,6 +118,13 @@ pub fn delete_certificate(s: &mut [u8], e: Event, slot: usize)
     image::clear_certificate(s, slot);
 }
 
+// "A card's operator root": marking it valid takes the phone's marks.
+pub fn on_a_card(c: Certificate) -> bool
+    ensures { λ r. ⌜ r ≡ on-a-card c ⌝ }
+{
+    (c.kind == 0) & (c.domain == 1) & (c.place != 0)
+}
+
 // 7: the mark of a card's operator root takes the phone's away first.
 pub fn mark_valid(s: &mut [u8], e: Event, slot: usize)
     requires { ⌜ Accepted-image (now s) ⌝ }
@@ -127,7 +134,7 @@ pub fn mark_valid(s: &mut [u8], e: Event, slot: usize)
     ensures { λ _. ⌜ now (s .exit) ≡ encode (mark-valid e (decode (now (s .entry)))) ⌝ }
 {
     let c = image::certificate(s, slot);
-    if (c.kind == 0) & (c.domain == 1) & (c.place != 0) {
+    if on_a_card(c) {
         retire(s, true, 0);
         image::set_mark(s, slot, 1);
         return;
@@ -163,7 +170,7 @@ fn is_listed(e: Event, id: u16) -> bool
 }
 
 // What a message makes of `enabled`.
-fn enabled_by(e: Event, c: Certificate) -> u8
+pub fn enabled_by(e: Event, c: Certificate) -> u8
     requires { ⌜ e .fourth ≤ 8 ⌝ }
     ensures { λ r. ⌜ r ≡ enabled-by e c ⌝ }
 {

@@ -3,11 +3,14 @@ use records::Event;
 use records::image;
 use rules::Answer;
 ghost use mathlib.Core.Path.{_≡_};
-ghost use Prim.Native.Nat.{_<_};
+ghost use Prim.Native.Nat.{_≤_, _<_};
 ghost use Rattle.records.specs.Phone.{decode};
+ghost use Rattle.records.specs.Frame.{Framed};
 ghost use Rattle.rules.specs.Forms.{with-kind};
 ghost use Rattle.rules.specs.Step.{refused};
 ghost use Rattle.opening.specs.Opened.{Accepted-image};
+ghost use Rattle.rules.specs.Words.{any};
+ghost use Rattle.events.specs.Quiet.{runs-out, disables};
 ghost use Rattle.events.specs.Stepped.{Handled, Stepped, Stepped-on};
 
 // "Every code other than 0 gives domain 0 and links 0"; so does code 0 but for verify and request.
@@ -21,7 +24,25 @@ fn refused(code: u8) -> Answer
     }
 }
 
-// ---- a handler for each kind: the decision, and where it is 0 the effect and the settling
+// ---- a handler for each kind: the decision, and where it is 0 the effect and the settling, where a chain can break
+
+// Whether an issued record is in date now, and no longer at t: only then can time break a chain.
+fn runs_out(s: &[u8], t: u32) -> bool
+    requires { ⌜ Framed (now s) ⌝ }
+    ensures { λ r. ⌜ r ≡ any (runs-out (decode (now (s .entry)) .trust .seen .clock) t) (decode (now (s .entry)) .trust .certificates) ⌝ }
+{
+    let slots = image::certificate_slots(s);
+    let clock = image::clock(s);
+    let mut i: usize = 0;
+    while i < slots {
+        let c = image::certificate(s, i);
+        if (c.kind == 1) & chain::in_date(clock, c) & !chain::in_date(t, c) {
+            return true;
+        }
+        i += 1;
+    }
+    false
+}
 
 fn clock(s: &mut [u8], e: Event) -> Answer
     requires { ⌜ Accepted-image (now s) ⌝ }
@@ -32,7 +53,11 @@ fn clock(s: &mut [u8], e: Event) -> Answer
     if code != 0 {
         return refused(code);
     }
+    let broken = runs_out(s, e.key);
     effects::tick(s, e);
+    if !broken {
+        return refused(0);
+    }
     effects::settle(s);
     refused(0)
 }
@@ -46,7 +71,12 @@ fn card_in(s: &mut [u8], e: Event) -> Answer
     if code != 0 {
         return refused(code);
     }
+    // With no card to go and no mark to fall, more records are present and all others stay as they are.
+    let safe = (image::card_present(s) == 0) & !lookup::has_valid_operator(s, 0);
     effects::card_in(s, e);
+    if safe {
+        return refused(0);
+    }
     effects::settle(s);
     refused(0)
 }
@@ -90,7 +120,6 @@ fn install_certificate(s: &mut [u8], e: Event) -> Answer
     }
     let c = decisions::new_certificate(image::mode(s), e);
     effects::install_certificate(s, c, plan.slot);
-    effects::settle(s);
     refused(0)
 }
 
@@ -117,7 +146,11 @@ fn mark_valid(s: &mut [u8], e: Event) -> Answer
     if plan.code != 0 {
         return refused(plan.code);
     }
+    let takes = effects::on_a_card(image::certificate(s, plan.slot));
     effects::mark_valid(s, e, plan.slot);
+    if !takes {
+        return refused(0);
+    }
     effects::settle(s);
     refused(0)
 }
@@ -136,6 +169,24 @@ fn mark_invalid(s: &mut [u8], e: Event) -> Answer
     refused(0)
 }
 
+// Whether a message disables a root that is enabled: only then can it break a chain.
+fn disables(s: &[u8], e: Event) -> bool
+    requires { ⌜ Framed (now s) ⌝ }
+    requires { ⌜ e .fourth ≤ 8 ⌝ }
+    ensures { λ r. ⌜ r ≡ any (disables e) (decode (now (s .entry)) .trust .certificates) ⌝ }
+{
+    let slots = image::certificate_slots(s);
+    let mut i: usize = 0;
+    while i < slots {
+        let c = image::certificate(s, i);
+        if (c.kind == 0) & (c.domain == 3) & (c.enabled == 1) & (effects::enabled_by(e, c) != 1) {
+            return true;
+        }
+        i += 1;
+    }
+    false
+}
+
 fn message(s: &mut [u8], e: Event) -> Answer
     requires { ⌜ Accepted-image (now s) ⌝ }
     requires { ⌜ e .actor < 5 ⌝ }
@@ -145,7 +196,11 @@ fn message(s: &mut [u8], e: Event) -> Answer
     if code != 0 {
         return refused(code);
     }
+    let broken = disables(s, e);
     effects::message(s, e);
+    if !broken {
+        return refused(0);
+    }
     effects::settle(s);
     refused(0)
 }

@@ -1,10 +1,16 @@
+use mathlib.Core.Bool.{not, _&&_}
+use mathlib.Core.Path.{sym, subst, _∙_}
+use lib.Dec.{T, eqb}
 use Rattle.rules.specs.Forms.{with-kind}
-use Rattle.events.proofs.Handles.{handled-refused, handled-settled, framed-effect}
 use Rattle.rules.specs.Effects.{effect, card-in}
 use Rattle.rules.specs.Step.{done}
+use Rattle.rules.proofs.Tests.{and-l, and-r, is}
+use Rattle.events.proofs.Handles.{handled-refused, handled-settled, handled-still, framed-effect, accepted-phone}
+use Rattle.events.proofs.Still.{card-still}
 use borrow.Author.Needs.{needs}
 use Rattle.events.proofs.card_in.Statement.{statement}
 use Rattle.events.proofs.card_in.Tie as tie
+use Rattle.effects.proofs.card_in.Reads as card-in-reads′
 
 card-in-requires : tie.Need-card-in-requires
 card-in-requires c κs = search needs
@@ -18,12 +24,14 @@ same-length c = search needs
 returns : tie.Need-returns
 returns c = handled-refused _ (with-kind 2 (c .before .before .before .before .before .args .e)) _ (c .before .before .card-in .ensures) (c .before .if1 .taken) _ (c .refused .ensures)
 
+card-present-requires : tie.Need-card-present-requires
+card-present-requires c κs = search needs
+
+has-valid-operator-requires : tie.Need-has-valid-operator-requires
+has-valid-operator-requires c κs = search needs
+
 card-in-requires-2 : tie.Need-card-in-requires-2
 card-in-requires-2 c κs = search needs
-
-settle-requires : tie.Need-settle-requires
-unfolding effect card-in
-settle-requires c κs = framed-effect (c .before .before .before .before .before .before .before .before .before .args .s .now) (with-kind 2 (c .before .before .before .before .before .before .before .before .before .args .e)) (c .before .before .before .before .before .before .before .before .before .pre .0) _ (c .before .before .before .card-in2 .ensures)
 
 refused-requires-2 : tie.Need-refused-requires-2
 refused-requires-2 c κs = search needs
@@ -33,7 +41,21 @@ same-length-2 c = search needs
 
 returns-2 : tie.Need-returns-2
 unfolding effect card-in done
-returns-2 c = handled-settled _ (with-kind 2 (c .before .before .before .before .before .before .before .before .before .before .before .before .before .args .e)) _ (c .before .before .before .before .before .before .before .before .before .before .card-in .ensures) (c .before .before .before .before .before .before .before .before .before .if1 .left) _ (c .refused2 .ensures) _ _ (c .before .before .before .before .before .before .before .card-in2 .ensures) (c .before .before .before .settle .ensures)
+returns-2 c = let z = c .before .before .before .before .before .before .before .before .before .before .before .before .before .before in let q = c .before .before .before .before .before .before .before .before .card-present in let v = c .before .before .before .before .before .before .has-valid-operator in let w : T (eqb (q .result) 0 && not (v .result)) = subst T (sym (c .before .if2 .taken)) tt in handled-still _ (with-kind 2 (z .args .e)) _ (c .before .before .before .before .before .before .before .before .before .before .before .card-in .ensures) (c .before .before .before .before .before .before .before .before .before .before .if1 .left) (card-still _ (accepted-phone _ (z .pre .0)) (z .args .e) (sym (q .ensures) ∙ is (q .result) 0 (and-l (eqb (q .result) 0) (not (v .result)) w)) (subst (λ x. T (not x)) (v .ensures) (and-r (eqb (q .result) 0) (not (v .result)) w))) _ (c .refused2 .ensures) _ (c .before .before .before .before .card-in2 .ensures)
+
+settle-requires : tie.Need-settle-requires
+unfolding effect card-in done
+settle-requires c κs = framed-effect (c .before .before .before .before .before .before .before .before .before .before .before .before .before .before .args .s .now) (with-kind 2 (c .before .before .before .before .before .before .before .before .before .before .before .before .before .before .args .e)) (c .before .before .before .before .before .before .before .before .before .before .before .before .before .before .pre .0) _ (c .before .before .before .before .card-in2 .ensures)
+
+refused-requires-3 : tie.Need-refused-requires-3
+refused-requires-3 c κs = search needs
+
+same-length-3 : tie.Need-same-length-3
+same-length-3 c = search needs
+
+returns-3 : tie.Need-returns-3
+unfolding effect card-in done
+returns-3 c = handled-settled _ (with-kind 2 (c .before .before .before .before .before .before .before .before .before .before .before .before .before .before .before .before .before .before .args .e)) _ (c .before .before .before .before .before .before .before .before .before .before .before .before .before .before .before .card-in .ensures) (c .before .before .before .before .before .before .before .before .before .before .before .before .before .before .if1 .left) _ (c .refused3 .ensures) _ _ (c .before .before .before .before .before .before .before .before .card-in2 .ensures) (c .before .before .before .settle .ensures)
 
 pub card-in-spec : {M : Type 1} → statement M
 card-in-spec =
@@ -43,8 +65,13 @@ card-in-spec =
     refused-requires
     same-length
     returns
+    card-present-requires
+    has-valid-operator-requires
     card-in-requires-2
-    settle-requires
     refused-requires-2
     same-length-2
-    returns-2)
+    returns-2
+    settle-requires
+    refused-requires-3
+    same-length-3
+    returns-3)

@@ -1,10 +1,11 @@
-use Rattle.events.proofs.Handles.{installed}
 use Rattle.rules.specs.Forms.{with-kind}
-use Rattle.events.proofs.Handles.{handled-refused, handled-settled, framed-effect}
 use Rattle.rules.specs.Step.{done}
+use Rattle.events.proofs.Handles.{handled-refused, handled-still, installed, accepted-phone}
+use Rattle.events.proofs.Still.{certificate-still}
 use borrow.Author.Needs.{needs}
 use Rattle.events.proofs.install_certificate.Statement.{statement}
 use Rattle.events.proofs.install_certificate.Tie as tie
+use Rattle.effects.proofs.install_certificate.Reads as install-certificate-reads′
 
 install-certificate-requires : tie.Need-install-certificate-requires
 install-certificate-requires c κs = search needs
@@ -27,9 +28,6 @@ new-certificate-requires c κs = search needs
 install-certificate-requires-2 : tie.Need-install-certificate-requires-2
 install-certificate-requires-2 c κs = (c .before .before .before .before .before .before .before .before .before .pre .0 .framed, (c .before .before .before .before .before .before .install-certificate .ensures .named (c .before .before .before .before .if1 .left), c .before .before .before .before .before .before .install-certificate .ensures .within (c .before .before .before .before .if1 .left)))
 
-settle-requires : tie.Need-settle-requires
-settle-requires c κs = framed-effect _ (with-kind 5 (c .before .before .before .before .before .before .before .before .before .before .before .before .before .args .e)) (c .before .before .before .before .before .before .before .before .before .before .before .before .before .pre .0) _ (installed _ (c .before .before .before .before .before .before .before .before .before .before .before .before .before .args .e) _ _ (c .before .before .before .before .before .new-certificate .ensures) (c .before .before .before .before .before .before .mode .ensures) _ (c .before .before .before .install-certificate2 .ensures))
-
 refused-requires-2 : tie.Need-refused-requires-2
 refused-requires-2 c κs = search needs
 
@@ -38,7 +36,7 @@ same-length-2 c = search needs
 
 returns-2 : tie.Need-returns-2
 unfolding done
-returns-2 c = handled-settled _ (with-kind 5 (c .before .before .before .before .before .before .before .before .before .before .before .before .before .before .before .before .before .args .e)) _ (c .before .before .before .before .before .before .before .before .before .before .before .before .before .before .install-certificate .ensures .code) (c .before .before .before .before .before .before .before .before .before .before .before .before .if1 .left) _ (c .refused2 .ensures) _ _ (installed _ (c .before .before .before .before .before .before .before .before .before .before .before .before .before .before .before .before .before .args .e) _ _ (c .before .before .before .before .before .before .before .before .before .new-certificate .ensures) (c .before .before .before .before .before .before .before .before .before .before .mode .ensures) _ (c .before .before .before .before .before .before .before .install-certificate2 .ensures)) (c .before .before .before .settle .ensures)
+returns-2 c = handled-still _ (with-kind 5 (c .before .before .before .before .before .before .before .before .before .before .before .before .before .args .e)) _ (c .before .before .before .before .before .before .before .before .before .before .install-certificate .ensures .code) (c .before .before .before .before .before .before .before .before .if1 .left) (certificate-still _ (accepted-phone _ (c .before .before .before .before .before .before .before .before .before .before .before .before .before .pre .0)) (c .before .before .before .before .before .before .before .before .before .before .before .before .before .args .e)) _ (c .refused2 .ensures) _ (installed _ (c .before .before .before .before .before .before .before .before .before .before .before .before .before .args .e) _ _ (c .before .before .before .before .before .new-certificate .ensures) (c .before .before .before .before .before .before .mode .ensures) _ (c .before .before .before .install-certificate2 .ensures))
 
 pub install-certificate-spec : {M : Type 1} → statement M
 install-certificate-spec =
@@ -51,7 +49,6 @@ install-certificate-spec =
     mode-requires
     new-certificate-requires
     install-certificate-requires-2
-    settle-requires
     refused-requires-2
     same-length-2
     returns-2)
