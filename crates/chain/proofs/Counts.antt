@@ -19,7 +19,7 @@ use Rattle.chain.specs.Table.{count, slot, Counted}
 
 -- ---- more links serve where fewer do
 
-serves-more : (f g : Certificate → Bool) → ((c : Certificate) → T (f c) → T (g c)) → (d k : ℕ) (l : List Certificate) → T (any (serves f d k) l) → T (any (serves g d k) l)
+pub serves-more : (f g : Certificate → Bool) → ((c : Certificate) → T (f c) → T (g c)) → (d k : ℕ) (l : List Certificate) → T (any (serves f d k) l) → T (any (serves g d k) l)
 unfolding serves
 serves-more f g h d k l t =
     let s = any-out (serves f d k) l t in
@@ -52,13 +52,13 @@ good-up (suc n) m t c h g =
 
 -- ---- a count
 
-same : (a b : Bool) → (T a → T b) → (T b → T a) → a ≡ b
+pub same : (a b : Bool) → (T a → T b) → (T b → T a) → a ≡ b
 same true true f g = refl
 same true false f g = absurd (f tt)
 same false true f g = absurd (g tt)
 same false false f g = refl
 
-counted : (n : ℕ) (t : Trust) (c : Certificate) → T (good n t c) → count n t c ≢ 0
+pub counted : (n : ℕ) (t : Trust) (c : Certificate) → T (good n t c) → count n t c ≢ 0
 unfolding good
 counted zero t c h = absurd h
 counted (suc n) t c h = least-least (λ m. good m t c) (suc n) (suc n) (omega arith) (omega arith) h .0

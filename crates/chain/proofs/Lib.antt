@@ -1,4 +1,6 @@
 pub mod Counts
+pub mod Served
 pub mod Rounds
-pub mod Looks
-pub mod Domains
+pub mod Levels
+pub mod Flags
+pub mod Holders

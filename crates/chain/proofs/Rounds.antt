@@ -11,10 +11,11 @@ use lib.Seq.{getD-set-same, getD-set-other}
 use native.Mathlib.Omega.{arith}
 use Rattle.records.specs.Phone.{Trust}
 use Rattle.records.specs.declared.Certificate.{Certificate}
-use Rattle.rules.specs.Words.{any, least}
-use Rattle.rules.specs.Chains.{trusted-root, link, serves, good}
-use Rattle.chain.specs.Table.{count, slot, Counted}
+use Rattle.rules.specs.Words.{least}
+use Rattle.rules.specs.Chains.{trusted-root, link}
+use Rattle.chain.specs.Table.{count, slot, Counted, of-key, among, Listed}
 use Rattle.chain.proofs.Counts.{count-kept, count-root, count-neither, count-link}
+use Rattle.chain.proofs.Served.{newest-serve}
 
 module _ (t : Trust) (table : List ℕ) (i : ℕ) (l : i < length (t .certificates)) where
   pub found-before : getD table i 0 ≢ 0 → (n m : ℕ) → n ≡ suc m → Counted m t table → getD table i 0 ≡ count n t (slot t i)
@@ -36,16 +37,15 @@ module _ (t : Trust) (table : List ℕ) (i : ℕ) (l : i < length (t .certificat
       pub found-neither : not (link (t .seen) c) ≡ true → (n m : ℕ) → n ≡ suc m → Counted m t table → 0 ≡ count n t (slot t i)
       found-neither k n m e w = told 0 n m e (count-neither m t c (not-yet m w) h (not-true _ k))
 
-      module _ (k : not (link (t .seen) c) ≡ false) (b : Bool)
-          (s : (m : ℕ) → Counted m t table → b ≡ any (serves (good m t) (c .domain) (c .verifying)) (t .certificates)) where
-        linked : (m : ℕ) → Counted m t table → cond b (suc m) 0 ≡ count (suc m) t c
-        linked m w = count-link m t c (not-yet m w) h (not-false _ k) b (sym (s m w))
+      module _ (k : not (link (t .seen) c) ≡ false) (list : List ℕ) (size : ℕ) (b : Bool) (a : b ≡ among (λ j. of-key (c .domain) (c .verifying) (slot t j)) list size) where
+        linked : (m : ℕ) → Counted m t table → Listed m t list size → cond b (suc m) 0 ≡ count (suc m) t c
+        linked m w v = count-link m t c (not-yet m w) h (not-false _ k) b (sym (newest-serve m t c (not-yet m w) (not-false _ k)) ∙ sym (v .at (c .domain) (c .verifying)) ∙ sym a)
 
-        pub found-served : b ≡ true → (n m : ℕ) → n ≡ suc m → Counted m t table → n ≡ count n t (slot t i)
-        found-served y n m e w = told n n m e (e ∙ ap (λ x. cond x (suc m) 0) (sym y) ∙ linked m w)
+        pub found-served : b ≡ true → (n m : ℕ) → n ≡ suc m → Counted m t table → Listed m t list size → n ≡ count n t (slot t i)
+        found-served y n m e w v = told n n m e (e ∙ ap (λ x. cond x (suc m) 0) (sym y) ∙ linked m w v)
 
-        pub found-unserved : b ≡ false → (n m : ℕ) → n ≡ suc m → Counted m t table → 0 ≡ count n t (slot t i)
-        found-unserved y n m e w = told 0 n m e (ap (λ x. cond x (suc m) 0) (sym y) ∙ linked m w)
+        pub found-unserved : b ≡ false → (n m : ℕ) → n ≡ suc m → Counted m t table → Listed m t list size → 0 ≡ count n t (slot t i)
+        found-unserved y n m e w v = told 0 n m e (ap (λ x. cond x (suc m) 0) (sym y) ∙ linked m w v)
 
 -- a list filled from the front by f, one element more
 pub filled-more : (f : ℕ → ℕ) (l : List ℕ) (i v : ℕ) → i < length l → ((k : ℕ) → k < i → getD l k 0 ≡ f k) → v ≡ f i → (k : ℕ) → k < i + 1 → getD (set l i v) k 0 ≡ f k

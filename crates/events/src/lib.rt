@@ -290,11 +290,10 @@ fn request(s: &[u8], e: Event) -> Answer
     if x.domain == 0 {
         return refused(0);
     }
-    let table = chain::table(s);
     Answer {
         code: 0,
         domain: x.domain,
-        links: chain::links(s, &table, x.signing, x.domain),
+        links: chain::links_of(s, x.signing, x.domain),
     }
 }
 

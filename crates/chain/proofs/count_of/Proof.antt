@@ -11,7 +11,7 @@ element-copy-out-found c = search needs
 returns : tie.Need-returns
 returns c =
     let a = c .before .before .before in
-    λ m e k. found-before _ _ (a .args .i) (a .pre .1) (c .if1 .taken) _ m e k
+    λ m e k l. found-before _ _ (a .args .i) (a .pre .1 .1) (c .if1 .taken) _ m e k
 
 certificate-requires : tie.Need-certificate-requires
 certificate-requires c κs = search needs
@@ -22,7 +22,7 @@ trusted-root-requires c κs = search needs
 returns-2 : tie.Need-returns-2
 returns-2 c =
     let a = c .before .before .before .before .before .before in
-    λ m e k. found-root _ _ (a .args .i) (a .pre .1) (c .before .before .before .if1 .left) _ (c .before .before .certificate .ensures) (sym (c .before .trusted-root .ensures) ∙ c .if2 .taken) _ m e k
+    λ m e k l. found-root _ _ (a .args .i) (a .pre .1 .1) (c .before .before .before .if1 .left) _ (c .before .before .certificate .ensures) (sym (c .before .trusted-root .ensures) ∙ c .if2 .taken) _ m e k
 
 is-link-requires : tie.Need-is-link-requires
 is-link-requires c κs = search needs
@@ -30,20 +30,20 @@ is-link-requires c κs = search needs
 returns-3 : tie.Need-returns-3
 returns-3 c =
     let a = c .before .before .before .before .before .before .before .before in
-    λ m e k. found-neither _ _ (a .args .i) (a .pre .1) (c .before .before .before .before .before .if1 .left) _ (c .before .before .before .before .certificate .ensures) (sym (c .before .before .before .trusted-root .ensures) ∙ c .before .before .if2 .left) (ap not (sym (c .before .is-link .ensures)) ∙ c .if3 .taken) _ m e k
+    λ m e k l. found-neither _ _ (a .args .i) (a .pre .1 .1) (c .before .before .before .before .before .if1 .left) _ (c .before .before .before .before .certificate .ensures) (sym (c .before .before .before .trusted-root .ensures) ∙ c .before .before .if2 .left) (ap not (sym (c .before .is-link .ensures)) ∙ c .if3 .taken) _ m e k
 
-is-served-requires : tie.Need-is-served-requires
-is-served-requires c κs = search needs
+is-among-requires : tie.Need-is-among-requires
+is-among-requires c κs = search needs
 
 returns-4 : tie.Need-returns-4
 returns-4 c =
     let a = c .before .before .before .before .before .before .before .before .before .before in
-    λ m e k. found-served _ _ (a .args .i) (a .pre .1) (c .before .before .before .before .before .before .before .if1 .left) _ (c .before .before .before .before .before .before .certificate .ensures) (sym (c .before .before .before .before .before .trusted-root .ensures) ∙ c .before .before .before .before .if2 .left) (ap not (sym (c .before .before .before .is-link .ensures)) ∙ c .before .before .if3 .left) _ (c .before .is-served .ensures) (c .if4 .taken) _ m e k
+    λ m e k l. found-served _ _ (a .args .i) (a .pre .1 .1) (c .before .before .before .before .before .before .before .if1 .left) _ (c .before .before .before .before .before .before .certificate .ensures) (sym (c .before .before .before .before .before .trusted-root .ensures) ∙ c .before .before .before .before .if2 .left) (ap not (sym (c .before .before .before .is-link .ensures)) ∙ c .before .before .if3 .left) _ _ _ (c .before .is-among .ensures) (c .if4 .taken) _ m e k l
 
 returns-5 : tie.Need-returns-5
 returns-5 c =
     let a = c .before .before .before .before .before .before .before .before .before .before in
-    λ m e k. found-unserved _ _ (a .args .i) (a .pre .1) (c .before .before .before .before .before .before .before .if1 .left) _ (c .before .before .before .before .before .before .certificate .ensures) (sym (c .before .before .before .before .before .trusted-root .ensures) ∙ c .before .before .before .before .if2 .left) (ap not (sym (c .before .before .before .is-link .ensures)) ∙ c .before .before .if3 .left) _ (c .before .is-served .ensures) (c .if4 .left) _ m e k
+    λ m e k l. found-unserved _ _ (a .args .i) (a .pre .1 .1) (c .before .before .before .before .before .before .before .if1 .left) _ (c .before .before .before .before .before .before .certificate .ensures) (sym (c .before .before .before .before .before .trusted-root .ensures) ∙ c .before .before .before .before .if2 .left) (ap not (sym (c .before .before .before .is-link .ensures)) ∙ c .before .before .if3 .left) _ _ _ (c .before .is-among .ensures) (c .if4 .left) _ m e k l
 
 pub count-of-spec : {M : Type 1} → statement M
 count-of-spec =
@@ -56,6 +56,6 @@ count-of-spec =
     returns-2
     is-link-requires
     returns-3
-    is-served-requires
+    is-among-requires
     returns-4
     returns-5)

@@ -24,14 +24,11 @@ refused-requires-2 c κs = search needs
 returns-2 : tie.Need-returns-2
 returns-2 c = handled-unchanged _ (c .before .before .before .before .before .before .before .before .args .e) (c .before .before .before .before .before .before .before .before .pre .0) _ (c .before .before .before .before .before .before .request .ensures .code) (c .before .before .before .before .if1 .left) _ (c .refused2 .ensures ∙ request-untrusted _ (accepted-phone _ (c .before .before .before .before .before .before .before .before .pre .0)) (c .before .before .before .before .before .before .before .before .args .e) _ (c .before .before .before .before .before .before .request .ensures .named (c .before .before .before .before .if1 .left)) _ (c .before .before .before .executable .ensures) (c .before .if2 .taken))
 
-table-requires : tie.Need-table-requires
-table-requires c κs = search needs
-
-links-requires : tie.Need-links-requires
-links-requires c κs = search needs
+links-of-requires : tie.Need-links-of-requires
+links-of-requires c κs = search needs
 
 returns-3 : tie.Need-returns-3
-returns-3 c = handled-unchanged _ (c .before .before .before .before .before .before .before .before .before .before .args .e) (c .before .before .before .before .before .before .before .before .before .before .pre .0) _ (c .before .before .before .before .before .before .before .before .request .ensures .code) (c .before .before .before .before .before .before .if1 .left) _ (request-tells _ (accepted-phone _ (c .before .before .before .before .before .before .before .before .before .before .pre .0)) (c .before .before .before .before .before .before .before .before .before .before .args .e) _ (c .before .before .before .before .before .before .before .before .request .ensures .named (c .before .before .before .before .before .before .if1 .left)) _ (c .before .before .before .before .before .executable .ensures) _ (c .links .ensures))
+returns-3 c = handled-unchanged _ (c .before .before .before .before .before .before .before .before .args .e) (c .before .before .before .before .before .before .before .before .pre .0) _ (c .before .before .before .before .before .before .request .ensures .code) (c .before .before .before .before .if1 .left) _ (request-tells _ (accepted-phone _ (c .before .before .before .before .before .before .before .before .pre .0)) (c .before .before .before .before .before .before .before .before .args .e) _ (c .before .before .before .before .before .before .request .ensures .named (c .before .before .before .before .if1 .left)) _ (c .before .before .before .executable .ensures) _ (c .links-of .ensures))
 
 pub request-spec : {M : Type 1} → statement M
 request-spec =
@@ -43,6 +40,5 @@ request-spec =
     executable-requires
     refused-requires-2
     returns-2
-    table-requires
-    links-requires
+    links-of-requires
     returns-3)
