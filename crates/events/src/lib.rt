@@ -1,4 +1,5 @@
 // One step of the monitor: an event on an image, its answer and the image after it.
+use records::Certificate;
 use records::Event;
 use records::image;
 use rules::Answer;
@@ -169,6 +170,17 @@ fn mark_invalid(s: &mut [u8], e: Event) -> Answer
     refused(0)
 }
 
+// A third party root that is enabled, and no longer after the message. The list is looked through for such a root alone.
+fn is_disabled(e: Event, c: Certificate) -> bool
+    requires { ⌜ e .fourth ≤ 8 ⌝ }
+    ensures { λ r. ⌜ r ≡ disables e c ⌝ }
+{
+    if !((c.kind == 0) & (c.domain == 3) & (c.enabled == 1)) {
+        return false;
+    }
+    effects::enabled_by(e, c) != 1
+}
+
 // Whether a message disables a root that is enabled: only then can it break a chain.
 fn disables(s: &[u8], e: Event) -> bool
     requires { ⌜ Framed (now s) ⌝ }
@@ -178,8 +190,7 @@ fn disables(s: &[u8], e: Event) -> bool
     let slots = image::certificate_slots(s);
     let mut i: usize = 0;
     while i < slots {
-        let c = image::certificate(s, i);
-        if (c.kind == 0) & (c.domain == 3) & (c.enabled == 1) & (effects::enabled_by(e, c) != 1) {
+        if is_disabled(e, image::certificate(s, i)) {
             return true;
         }
         i += 1;

@@ -25,12 +25,11 @@ loop-holds c = (search needs, search needs, refl)
 certificate-requires : tie.Need-certificate-requires Inv-loop μ-loop
 certificate-requires c κs = search needs
 
-enabled-by-requires : tie.Need-enabled-by-requires Inv-loop μ-loop
-enabled-by-requires c κs = search needs
+is-disabled-requires : tie.Need-is-disabled-requires Inv-loop μ-loop
+is-disabled-requires c κs = search needs
 
 returns : tie.Need-returns Inv-loop μ-loop
-unfolding disables
-returns c = sym (any-here no-certificate _ (c .before .before .before .before .before .before .before .loop .i) (disables (c .before .before .before .before .before .before .before .before .before .before .args .e)) (omega arith) (ap (disables (c .before .before .before .before .before .before .before .before .before .before .args .e)) (sym (c .before .before .before .before .before .certificate .ensures)) ∙ cc (c .before .enabled-by .ensures, c .if1 .taken))) ∙ c .before .before .before .before .before .before .before .loop .inv .2
+returns c = sym (any-here no-certificate _ (c .before .before .before .before .loop .i) _ (omega arith) (ap (disables (c .before .before .before .before .before .before .before .args .e)) (sym (c .before .before .certificate .ensures)) ∙ sym (c .before .is-disabled .ensures) ∙ c .if1 .taken)) ∙ c .before .before .before .before .loop .inv .2
 
 add-i : tie.Need-add-i Inv-loop μ-loop
 add-i c = search needs
@@ -39,8 +38,7 @@ loop-less : tie.Need-loop-less Inv-loop μ-loop
 loop-less c = search needs
 
 loop-again : tie.Need-loop-again Inv-loop μ-loop
-unfolding disables
-loop-again c = (search needs, search needs, sym (any-next no-certificate _ (c .before .before .before .before .before .before .before .loop .i) (disables (c .before .before .before .before .before .before .before .before .before .before .args .e)) (omega arith) (ap (disables (c .before .before .before .before .before .before .before .before .before .before .args .e)) (sym (c .before .before .before .before .before .certificate .ensures)) ∙ cc (c .before .enabled-by .ensures, c .if1 .left))) ∙ c .before .before .before .before .before .before .before .loop .inv .2)
+loop-again c = (search needs, search needs, sym (any-next no-certificate _ (c .before .before .before .before .loop .i) _ (omega arith) (ap (disables (c .before .before .before .before .before .before .before .args .e)) (sym (c .before .before .certificate .ensures)) ∙ sym (c .before .is-disabled .ensures) ∙ c .if1 .left)) ∙ c .before .before .before .before .loop .inv .2)
 
 returns-2 : tie.Need-returns-2 Inv-loop μ-loop
 returns-2 c = sym (any-end no-certificate _ (c .before .loop .i) _ (omega arith)) ∙ c .before .loop .inv .2
@@ -54,7 +52,7 @@ disables-spec =
     certificate-slots-requires
     loop-holds
     certificate-requires
-    enabled-by-requires
+    is-disabled-requires
     returns
     add-i
     loop-less
