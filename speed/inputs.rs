@@ -1,0 +1,260 @@
+//! The images and events that are measured: a full phone as a class might have it, the worst case for the search, and a lesson.
+
+pub const SIZES: [usize; 4] = [8, 16, 32, 64];
+pub const EVENT: usize = 24;
+
+const CARDS: u16 = 8;
+const ACTIONS: usize = 32;
+const CLOCK: u32 = 100;
+
+const OPERATOR_ROOT: u32 = 1000;
+const MANUFACTURER_ROOT: u32 = 2000;
+const THIRD_PARTY_ROOT: u32 = 3000;
+const PHONE_OPERATOR_ROOT: u32 = 1500;
+const ROOT_IDS: [u16; 4] = [1, 2, 3, 4];
+
+/// A certificate, in the order of its fields.
+#[derive(Clone, Copy)]
+struct Certificate {
+    id: u16,
+    place: u16,
+    kind: u8,
+    domain: u8,
+    mark: u8,
+    key: u32,
+    by: u32,
+    owner: u32,
+    expiry: u32,
+}
+
+impl Certificate {
+    fn write(&self, to: &mut Vec<u8>) {
+        put16(to, self.id);
+        put16(to, self.place);
+        to.extend_from_slice(&[self.kind, self.domain, self.mark, 1]);
+        for number in [self.key, self.by, self.owner, self.expiry] {
+            put32(to, number);
+        }
+    }
+}
+
+fn put16(to: &mut Vec<u8>, number: u16) {
+    to.extend_from_slice(&number.to_be_bytes());
+}
+
+fn put32(to: &mut Vec<u8>, number: u32) {
+    to.extend_from_slice(&number.to_be_bytes());
+}
+
+fn root(id: u16, place: u16, domain: u8, mark: u8, key: u32) -> Certificate {
+    Certificate { id, place, kind: 0, domain, mark, key, by: 0, owner: 501, expiry: 0 }
+}
+
+fn issued(id: u16, place: u16, domain: u8, key: u32, by: u32) -> Certificate {
+    Certificate { id, place, kind: 1, domain, mark: 1, key, by, owner: 501, expiry: 100_000 }
+}
+
+/// Four roots, and chains of two, three and four links in all three domains under them; two slots are free.
+fn full_certificates(slots: usize) -> Vec<Certificate> {
+    let mut all = vec![
+        root(ROOT_IDS[0], 1, 1, 1, OPERATOR_ROOT),
+        root(ROOT_IDS[1], 0, 1, 0, PHONE_OPERATOR_ROOT),
+        root(ROOT_IDS[2], 0, 2, 1, MANUFACTURER_ROOT),
+        root(ROOT_IDS[3], 0, 3, 1, THIRD_PARTY_ROOT),
+    ];
+    let roots = [OPERATOR_ROOT, MANUFACTURER_ROOT, THIRD_PARTY_ROOT];
+    let mut last = roots;
+    for n in 0..slots - 6 {
+        let domain = n % 3;
+        let depth = (n / 3) % 3;
+        let by = if depth == 0 { roots[domain] } else { last[domain] };
+        let key = 10_000 + n as u32;
+        last[domain] = key;
+        all.push(issued(100 + n as u16, (n % 2) as u16, domain as u8 + 1, key, by));
+    }
+    all
+}
+
+/// Three levels of twins over one root in the last slot, the deepest first: every round of a search has all to look at.
+fn worst_certificates(slots: usize) -> Vec<Certificate> {
+    let issued_slots = slots - 1;
+    let mut all: Vec<Certificate> = (0..issued_slots)
+        .map(|n| {
+            let level = n * 3 / issued_slots;
+            let key = 10_000 - level as u32;
+            let by = if level == 2 { THIRD_PARTY_ROOT } else { key - 1 };
+            issued(100 + n as u16, 0, 3, key, by)
+        })
+        .collect();
+    all.push(root(ROOT_IDS[3], 0, 3, 1, THIRD_PARTY_ROOT));
+    all
+}
+
+/// An image: 0 is the full phone, 1 the worst case for the search.
+pub fn image(which: usize, slots: usize) -> Vec<u8> {
+    let certificates = match which {
+        0 => full_certificates(slots),
+        _ => worst_certificates(slots),
+    };
+    let cards_at = 40 + 24 * slots;
+    let executables_at = cards_at + 8 * CARDS as usize;
+    let table_at = executables_at + 12 * slots;
+    let total = table_at + 4 * ACTIONS;
+    let mut all = Vec::with_capacity(total);
+    let counts = [1, slots as u16, CARDS, slots as u16, ACTIONS as u16, 1, 1, 0];
+    counts.iter().for_each(|count| put16(&mut all, *count));
+    put32(&mut all, CLOCK);
+    let ends = [40, cards_at, executables_at, table_at, total];
+    ends.iter().for_each(|at| put32(&mut all, *at as u32));
+    certificates.iter().for_each(|record| record.write(&mut all));
+    all.resize(cards_at, 0);
+    for card in 1..=CARDS {
+        put16(&mut all, card);
+        put16(&mut all, 0);
+        put32(&mut all, 500 + u32::from(card));
+    }
+    for n in 0..slots - 2 {
+        write_executable(&mut all, n, &certificates, which);
+    }
+    all.resize(table_at, 0);
+    for action in 0..ACTIONS {
+        all.extend_from_slice(&[[2, 2, 2, 2], [1, 2, 2, 1], [0, 1, 2, 1]][action % 3]);
+    }
+    all
+}
+
+/// Three of four executables are trusted by some record's key; in the worst case all are, by the deepest one's.
+fn write_executable(all: &mut Vec<u8>, n: usize, certificates: &[Certificate], which: usize) {
+    let signer = match which {
+        0 => certificates[2 + n % (certificates.len() - 2)],
+        _ => certificates[0],
+    };
+    let trusted = which == 1 || n % 4 != 3;
+    put16(all, n as u16 + 1);
+    all.push(if trusted { signer.domain } else { 0 });
+    all.push(0);
+    put32(all, signer.key);
+    put32(all, 2);
+}
+
+/// What is measured: the events behind the first `before` of them.
+pub struct Row {
+    pub name: &'static str,
+    pub image: usize,
+    pub events: Vec<u8>,
+    pub before: usize,
+    /// The code that each measured event gets, or any.
+    pub code: Option<u8>,
+}
+
+fn event(kind: u8, actor: u8, id: u16, second: u16, key: u32) -> Vec<u8> {
+    let mut all = vec![kind, actor];
+    put16(&mut all, id);
+    put16(&mut all, second);
+    all.resize(8, 0);
+    put32(&mut all, key);
+    all.resize(EVENT, 0);
+    all
+}
+
+fn clock(to: u32) -> Vec<u8> {
+    event(1, 0, 0, 0, to)
+}
+
+fn install_certificate(id: u16) -> Vec<u8> {
+    let mut all = event(5, 1, id, 0, 60_000);
+    all[6..8].copy_from_slice(&[1, 3]);
+    all[12..16].copy_from_slice(&THIRD_PARTY_ROOT.to_be_bytes());
+    all[20..24].copy_from_slice(&100_000u32.to_be_bytes());
+    all
+}
+
+/// Enables the third party root, named in all eight places, and disables the rest.
+fn message() -> Vec<u8> {
+    let mut all = event(9, 4, 0, 0, 0);
+    all[6..8].copy_from_slice(&[2, 8]);
+    for place in all[8..].chunks_exact_mut(2) {
+        place.copy_from_slice(&ROOT_IDS[3].to_be_bytes());
+    }
+    all
+}
+
+fn verify(id: u16) -> Vec<u8> {
+    event(12, 0, id, 0, 0)
+}
+
+fn request(id: u16, action: u16) -> Vec<u8> {
+    event(15, 0, id, action, 0)
+}
+
+/// A lesson: what a class does, most of it asking.
+fn lesson(slots: usize) -> Vec<Vec<u8>> {
+    let last = slots as u16 - 3;
+    let mut all = Vec::new();
+    for turn in 0..4u16 {
+        let id = 1 + (turn * 5) % last;
+        all.extend((0..6).map(|n| request(1 + (id + n) % last, n)));
+        all.push(event(13, 1, id, 1, 0));
+        all.push(request(id, 1));
+        all.push(clock(CLOCK + 1 + u32::from(turn)));
+        all.push(request(id, 4));
+        all.push(event(3, 0, 0, 0, 0));
+        all.extend((0..3).map(|n| request(1 + (id + n) % last, 2)));
+        all.push(event(2, 0, 0, 1, 0));
+        all.extend((0..4).map(|n| verify(1 + (id + n) % last)));
+        all.extend((0..3).map(|n| request(1 + (id + n) % last, 2)));
+        all.push(event(14, 1, id, 1, 0));
+        all.push(event(10, 1, 50_000, 0, MANUFACTURER_ROOT));
+        all.push(verify(50_000));
+        all.push(request(50_000, 0));
+        all.push(event(11, 1, 50_000, 0, 0));
+        all.push(event(8, 3, ROOT_IDS[2], 0, 0));
+        all.push(request(id, 5));
+        all.push(event(7, 3, ROOT_IDS[2], 0, 0));
+        all.push(event(7, 1, ROOT_IDS[2], 0, 0));
+        all.push(verify(id));
+        all.push(message());
+    }
+    all
+}
+
+/// All that is measured at one size.
+pub fn rows(slots: usize) -> Vec<Row> {
+    // The last executables: a look-up by id has all the others to pass.
+    let last = slots as u16 - 2;
+    let trusted = (1..=last).rev().find(|id| id % 4 != 0).unwrap_or(1);
+    let untrusted = (1..=last).rev().find(|id| id % 4 == 0).unwrap_or(4);
+    let deepest = 100 + slots as u16 - 7;
+    let done = |name, event: Vec<u8>| Row { name, image: 0, events: event, before: 0, code: Some(0) };
+    let after = |name, first: Vec<u8>, event: Vec<u8>| Row {
+        name,
+        image: 0,
+        events: [first, event].concat(),
+        before: 1,
+        code: Some(0),
+    };
+    let refused = |name, event: Vec<u8>, code| Row { name, image: 0, events: event, before: 0, code: Some(code) };
+    vec![
+        done("clock", clock(CLOCK + 1)),
+        after("card-in", event(3, 0, 0, 0, 0), event(2, 0, 0, 1, 0)),
+        done("card-out", event(3, 0, 0, 0, 0)),
+        done("power-up", event(4, 0, 0, 2, 0)),
+        done("install-certificate", install_certificate(60_000)),
+        done("delete-certificate", event(6, [2, 3, 1][(slots - 7) % 3], deepest, 0, 0)),
+        after("mark-valid", event(8, 3, ROOT_IDS[2], 0, 0), event(7, 3, ROOT_IDS[2], 0, 0)),
+        done("mark-invalid", event(8, 3, ROOT_IDS[2], 0, 0)),
+        done("message", message()),
+        done("install-executable", event(10, 1, 60_000, 0, 10_000)),
+        done("delete-executable", event(11, 1, last, 0, 0)),
+        done("verify", verify(trusted)),
+        done("give", event(13, 1, last, 31, 0)),
+        done("withdraw", event(14, 1, last, 1, 0)),
+        done("request", request(trusted, 0)),
+        done("request-untrusted", request(untrusted, 0)),
+        refused("request-refused", request(untrusted, 2), 15),
+        refused("malformed", event(16, 0, 1, 0, 0), 2),
+        Row { name: "verify-worst", image: 1, events: verify(last), before: 0, code: Some(0) },
+        Row { name: "clock-worst", image: 1, events: clock(CLOCK + 1), before: 0, code: Some(0) },
+        Row { name: "lesson", image: 0, events: lesson(slots).concat(), before: 0, code: None },
+    ]
+}
