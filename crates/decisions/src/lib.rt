@@ -306,23 +306,6 @@ fn bit(b: bool) -> u8
     0
 }
 
-// Whether a certificate of another domain has this key.
-fn key_elsewhere(s: &[u8], key: u32, domain: u8) -> bool
-    requires { ⌜ Framed (now s) ⌝ }
-    ensures { λ r. ⌜ r ≡ any (λ c. eqb (c .key) key && not (eqb (c .domain) domain)) (decode (now (s .entry)) .trust .certificates) ⌝ }
-{
-    let slots = image::certificate_slots(s);
-    let mut i: usize = 0;
-    while i < slots {
-        let c = image::certificate(s, i);
-        if (c.key == key) & (c.domain != domain) {
-            return true;
-        }
-        i += 1;
-    }
-    false
-}
-
 // Whether c is an operator root for a card of another operator.
 fn of_other_card(s: &[u8], c: Certificate) -> bool
     requires { ⌜ Framed (now s) ⌝ }
@@ -354,16 +337,17 @@ pub fn install_certificate(s: &[u8], e: Event) -> Plan
         return Plan { code: 8, slot: 0 };
     }
     let slots = image::certificate_slots(s);
-    if lookup::certificate_slot(s, e.id) < slots {
+    let room = lookup::certificate_room(s, e.id, e.key, e.fourth);
+    if room.taken {
         return Plan { code: 9, slot: 0 };
     }
-    if key_elsewhere(s, e.key, e.fourth) {
+    if room.elsewhere {
         return Plan { code: 10, slot: 0 };
     }
     if of_other_card(s, c) {
         return Plan { code: 11, slot: 0 };
     }
-    let slot = lookup::certificate_slot(s, 0);
+    let slot = room.slot;
     if slots <= slot {
         return Plan { code: 14, slot: 0 };
     }
@@ -577,10 +561,11 @@ pub fn install_executable(s: &[u8], e: Event) -> Plan
         return Plan { code: 4, slot: 0 };
     }
     let slots = image::executable_slots(s);
-    if lookup::executable_slot(s, e.id) < slots {
+    let room = lookup::executable_room(s, e.id);
+    if room.taken {
         return Plan { code: 9, slot: 0 };
     }
-    let slot = lookup::executable_slot(s, 0);
+    let slot = room.slot;
     if slots <= slot {
         return Plan { code: 14, slot: 0 };
     }

@@ -2,14 +2,17 @@
 use Prim.Native.Nat.{ℕ, zero, suc, _+_, _≤_, _<_}
 use mathlib.Core.Bool.{Bool, true, false, cond, not, _||_}
 use mathlib.Core.List.{List, [], _∷_}
-use mathlib.Core.Path.{_≡_, refl, sym, ap, _∙_}
+use mathlib.Core.Path.{_≡_, refl, sym, ap, subst, _∙_}
+use native.Mathlib.Nat.{zero-add}
 use native.Mathlib.Numerals.{add-one}
 use native.Mathlib.Omega.{arith}
 use borrow.Author.Tests.{lt-ltb, le-ltb}
-use lib.Dec.{ltb, leb·suc-zero, leb·suc-suc}
+use lib.Dec.{T, ltb, leb·suc-zero, leb·suc-suc}
 use lib.ListN.{length, getD, set, drop, drop-of-length-le}
 use lib.Seq.{drop-cons}
 use Rattle.rules.specs.Words.{any, find, fill}
+use Rattle.rules.proofs.Accepts.{T-true}
+use Rattle.rules.proofs.Slots.{any-at}
 use Rattle.lookup.specs.Places.{first-place}
 
 module _ {A : Type 0} (t : A → Bool) (d : A) (l : List A) (i : ℕ) where
@@ -17,17 +20,45 @@ module _ {A : Type 0} (t : A → Bool) (d : A) (l : List A) (i : ℕ) where
   rest : i < length l → drop i l ≡ getD l i d ∷ drop (i + 1) l
   rest h = drop-cons l i d h ∙ ap (λ n. getD l i d ∷ drop n l) (sym (add-one i))
 
-  pub place-here : first-place t l ≡ i + first-place t (drop i l) → i < length l → t (getD l i d) ≡ true → i ≡ first-place t l
+  here : i < length l → t (getD l i d) ≡ true → first-place t (drop i l) ≡ 0
   unfolding first-place
-  place-here inv h e = let z : first-place t (drop i l) ≡ 0 = rw (rest h, e) in omega arith
+  here h e = rw (rest h, e)
+
+  later : i < length l → t (getD l i d) ≡ false → first-place t (drop i l) ≡ suc (first-place t (drop (i + 1) l))
+  unfolding first-place
+  later h e = rw (rest h, e)
+
+  past : length l ≤ i → first-place t (drop i l) ≡ 0
+  unfolding first-place
+  past h = rw (drop-of-length-le l h)
+
+  pub place-here : first-place t l ≡ i + first-place t (drop i l) → i < length l → t (getD l i d) ≡ true → i ≡ first-place t l
+  place-here inv h e = omega (arith, here h e)
 
   pub place-next : first-place t l ≡ i + first-place t (drop i l) → i < length l → t (getD l i d) ≡ false → first-place t l ≡ i + 1 + first-place t (drop (i + 1) l)
-  unfolding first-place
-  place-next inv h e = let z : first-place t (drop i l) ≡ suc (first-place t (drop (i + 1) l)) = rw (rest h, e) in omega arith
+  place-next inv h e = omega (arith, later h e)
 
   pub place-end : first-place t l ≡ i + first-place t (drop i l) → length l ≤ i → i ≡ first-place t l
-  unfolding first-place
-  place-end inv h = let z : first-place t (drop i l) ≡ 0 = rw (drop-of-length-le l h) in omega arith
+  place-end inv h = omega (arith, past h)
+
+  -- a loop from the end down to slot i: k is the place that it kept from slot j on
+  pub place-back-end : length l ≤ i → i ≡ i + first-place t (drop i l)
+  place-back-end h = omega (arith, past h)
+
+  pub place-back-here : i < length l → t (getD l i d) ≡ true → i ≡ i + first-place t (drop i l)
+  place-back-here h e = omega (arith, here h e)
+
+  pub place-back : {j k : ℕ} → k ≡ j + first-place t (drop j l) → i + 1 ≡ j → i < length l → t (getD l i d) ≡ false → k ≡ i + first-place t (drop i l)
+  place-back {j} {k} inv q h e =
+      let inv′ : k ≡ i + 1 + first-place t (drop (i + 1) l) = subst (λ n. k ≡ n + first-place t (drop n l)) (sym q) inv in
+      omega (arith, later h e)
+
+  pub place-back-done : {k : ℕ} → k ≡ i + first-place t (drop i l) → i ≤ 0 → k ≡ first-place t l
+  place-back-done {k} inv h = let z : i ≡ 0 = omega arith in subst (λ n. k ≡ n + first-place t (drop n l)) z inv ∙ zero-add _
+
+  -- a slot that passes
+  pub somewhere : i < length l → t (getD l i d) ≡ true → any t l ≡ true
+  somewhere h e = T-true (any t l) (any-at t d l i h (subst T (sym e) tt))
 
 -- the first slot that passes is a slot exactly if some slot passes, and it has what `find` finds
 module _ {A : Type 0} (t : A → Bool) where

@@ -1,10 +1,13 @@
 // Records found: a certificate or an executable by its id, a card by its number, and what the rules ask of them.
 use records::Certificate;
 use records::image;
+ghost use mathlib.Core.Bool.{false, not, _&&_};
 ghost use mathlib.Core.Path.{_≡_};
+ghost use lib.Dec.{eqb};
 ghost use lib.ListN.{length};
 ghost use Rattle.records.specs.Phone.{decode};
 ghost use Rattle.records.specs.Frame.{Framed};
+ghost use Rattle.rules.specs.Words.{any};
 ghost use Rattle.rules.specs.ImageRules.{in-card-table, known-place, operator-of, valid-in, has-valid-operator};
 ghost use Rattle.rules.specs.Codes.{has-id, is-executable};
 ghost use Rattle.lookup.specs.Places.{first-place};
@@ -17,7 +20,7 @@ pub fn certificate_slot(s: &[u8], id: u16) -> usize
     let slots = image::certificate_slots(s);
     let mut i: usize = 0;
     while i < slots {
-        if image::certificate(s, i).id == id {
+        if image::certificate_has_id(s, i, id) {
             return i;
         }
         i += 1;
@@ -33,12 +36,80 @@ pub fn executable_slot(s: &[u8], id: u16) -> usize
     let slots = image::executable_slots(s);
     let mut i: usize = 0;
     while i < slots {
-        if image::executable(s, i).id == id {
+        if image::executable_has_id(s, i, id) {
             return i;
         }
         i += 1;
     }
     slots
+}
+
+// Whether an id is taken, and where it is not the lowest free slot, or the number of slots where there is none.
+pub struct Room {
+    pub taken: bool,
+    pub slot: usize,
+}
+
+// One sweep for an install, from the last slot down: the last free slot met is the lowest.
+pub fn executable_room(s: &[u8], id: u16) -> Room
+    requires { ⌜ Framed (now s) ⌝ }
+    ensures { λ r. ⌜ (r .taken ≡ any (is-executable id) (decode (now (s .entry)) .executables)) × (r .taken ≡ false → r .slot ≡ first-place (is-executable 0) (decode (now (s .entry)) .executables)) ⌝ }
+{
+    let slots = image::executable_slots(s);
+    let mut slot = slots;
+    let mut i = slots;
+    while 0 < i {
+        i -= 1;
+        if image::executable_has_id(s, i, id) {
+            return Room {
+                taken: true,
+                slot: 0,
+            };
+        }
+        if !image::executable_has_id(s, i, 0) {
+            continue;
+        }
+        slot = i;
+    }
+    Room { taken: false, slot }
+}
+
+// The same for a certificate, with whether a certificate of another domain has the key.
+pub struct CertificateRoom {
+    pub taken: bool,
+    pub elsewhere: bool,
+    pub slot: usize,
+}
+
+pub fn certificate_room(s: &[u8], id: u16, key: u32, domain: u8) -> CertificateRoom
+    requires { ⌜ Framed (now s) ⌝ }
+    ensures { λ r. ⌜ (r .taken ≡ any (has-id id) (decode (now (s .entry)) .trust .certificates)) × (r .taken ≡ false → r .elsewhere ≡ any (λ c. eqb (c .key) key && not (eqb (c .domain) domain)) (decode (now (s .entry)) .trust .certificates)) × (r .taken ≡ false → r .slot ≡ first-place (has-id 0) (decode (now (s .entry)) .trust .certificates)) ⌝ }
+{
+    let slots = image::certificate_slots(s);
+    let mut elsewhere = false;
+    let mut slot = slots;
+    let mut i = slots;
+    while 0 < i {
+        i -= 1;
+        if image::certificate_has_id(s, i, id) {
+            return CertificateRoom {
+                taken: true,
+                elsewhere: false,
+                slot: 0,
+            };
+        }
+        let c = image::certificate(s, i);
+        elsewhere = ((c.key == key) & (c.domain != domain)) | elsewhere;
+        if !image::certificate_has_id(s, i, 0) {
+            continue;
+        }
+        slot = i;
+    }
+    CertificateRoom {
+        taken: false,
+        elsewhere,
+        slot,
+    }
 }
 
 pub fn in_card_table(s: &[u8], n: u16) -> bool

@@ -1,10 +1,13 @@
 -- Laws of bytes put in place and of numbers read after writing, each over the width. Assumes nothing.
 use mathlib.Core.Path.{_≡_, refl, sym, ap, ap₂, _∙_, subst}
+use mathlib.Core.Bool.{false}
 use mathlib.Core.List.{List, [], _∷_, _++_, append-assoc, append-nil}
 use Prim.Native.Nat.{ℕ, zero, suc, _+_, _-_, _*_, _/_, _%_, _≤_, _<_}
 use native.Mathlib.Nat.{add-zero, zero-add, add-assoc, add-suc}
 use native.Mathlib.Numerals.{add-one}
 use native.Mathlib.Omega.{arith}
+use borrow.Author.Tests.{ne-eqb}
+use lib.Dec.{eqb}
 use lib.ListN.{length, getD, take, drop, set, replicate, length-append, length-drop, length-replicate, List·getD-append, take-append-drop, replicate-append-replicate}
 use lib.Seq.{sets, sets-eq, getD-append-add, getD-drop, getD-take, length-take-le, set-at, drop-cons, take-suc}
 use Rattle.octets.specs.Octets.{be, bytes, put, zeros}
@@ -149,3 +152,8 @@ pub be-small : (w : ℕ) (l : List ℕ) → Bytes l → (i : ℕ) → be (suc w)
 unfolding be
 be-small zero l b i = omega (arith, b i)
 be-small (suc w) l b i = high (be (suc w) l i) (getD l (i + suc w) 0) (b (i + suc w))
+
+-- two bytes whose low byte is not that of n do not make n
+pub low-differs : (l : List ℕ) (i n b : ℕ) → b ≡ be 1 l (i + 1) → b < 256 → (b ≡ n % 256 → ⊥) → false ≡ eqb (be 2 l i) n
+unfolding be
+low-differs l i n b e h d = sym (ne-eqb (be 2 l i) n (λ q. d (omega arith)))

@@ -1,6 +1,7 @@
 // Numbers of one, two and four bytes in a slice, most significant byte first, and runs of zeros.
 ghost use mathlib.Core.Path.{_≡_};
 ghost use Prim.Native.Nat.{_+_, _<_, _≤_};
+ghost use lib.Dec.{eqb};
 ghost use lib.ListN.{length};
 ghost use Rattle.octets.specs.Octets.{be8, be16, be32, bytes, put, zeros};
 
@@ -38,6 +39,17 @@ pub fn read32(s: &[u8], i: usize) -> u32
     ensures { λ r. ⌜ r ≡ be32 (now (s .entry)) i ⌝ }
 {
     ((wide32(s[i]) * 256 + wide32(s[i + 1])) * 256 + wide32(s[i + 2])) * 256 + wide32(s[i + 3])
+}
+
+// Whether two bytes from i on make n: the low byte first, since it alone tells most numbers apart.
+pub fn is16(s: &[u8], i: usize, n: u16) -> bool
+    requires { ⌜ i + 2 ≤ length (now s) ⌝ }
+    ensures { λ r. ⌜ r ≡ eqb (be16 (now (s .entry)) i) n ⌝ }
+{
+    if read8(s, i + 1) != (n % 256) as u8 {
+        return false;
+    }
+    read16(s, i) == n
 }
 
 // v as one byte at i, every other byte kept.

@@ -6,6 +6,7 @@ use crate::Header;
 use crate::Row;
 ghost use mathlib.Core.Path.{_≡_};
 ghost use Prim.Native.Nat.{_+_, _≤_, _<_};
+ghost use lib.Dec.{eqb};
 ghost use lib.ListN.{length};
 ghost use Rattle.records.specs.Sizes.{most-certificates, most-cards, most-executables, most-actions};
 ghost use Rattle.records.specs.Layout.{row-byte};
@@ -113,6 +114,19 @@ pub fn certificate(s: &[u8], i: usize) -> Certificate
     Certificate::read(s, Header::SIZE + i * Certificate::SIZE)
 }
 
+// Whether the certificate in a slot has this id: reads no other field.
+pub fn certificate_has_id(s: &[u8], i: usize, id: u16) -> bool
+    requires { ⌜ Framed (now s) ⌝ }
+    requires { ⌜ i < length (decode (now s) .trust .certificates) ⌝ }
+    ensures { λ r. ⌜ r ≡ eqb (certificate-at (decode (now (s .entry))) i .id) id ⌝ }
+{
+    octets::is16(
+        s,
+        Header::SIZE + i * Certificate::SIZE + Certificate::ID,
+        id,
+    )
+}
+
 pub fn card(s: &[u8], i: usize) -> Card
     requires { ⌜ Framed (now s) ⌝ }
     requires { ⌜ i < length (decode (now s) .cards) ⌝ }
@@ -127,6 +141,19 @@ pub fn executable(s: &[u8], i: usize) -> Executable
     ensures { λ r. ⌜ r ≡ executable-at (decode (now (s .entry))) i ⌝ }
 {
     Executable::read(s, Header::executables_at(s) as usize + i * Executable::SIZE)
+}
+
+// Whether the executable in a slot has this id: reads no other field.
+pub fn executable_has_id(s: &[u8], i: usize, id: u16) -> bool
+    requires { ⌜ Framed (now s) ⌝ }
+    requires { ⌜ i < length (decode (now s) .executables) ⌝ }
+    ensures { λ r. ⌜ r ≡ eqb (executable-at (decode (now (s .entry))) i .id) id ⌝ }
+{
+    octets::is16(
+        s,
+        Header::executables_at(s) as usize + i * Executable::SIZE + Executable::ID,
+        id,
+    )
 }
 
 pub fn row(s: &[u8], i: usize) -> Row

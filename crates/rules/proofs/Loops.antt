@@ -2,8 +2,9 @@
 use Prim.Native.Nat.{ℕ, suc, _+_, _≤_, _<_}
 use mathlib.Core.Bool.{Bool, true, false, cond, not, _&&_, _||_}
 use mathlib.Core.List.{List, [], _∷_, map}
-use mathlib.Core.Path.{_≡_, refl, sym, ap, _∙_}
+use mathlib.Core.Path.{_≡_, refl, sym, ap, subst, _∙_}
 use native.Mathlib.Numerals.{add-one}
+use native.Mathlib.Omega.{arith}
 use lib.Dec.{eqb}
 use lib.ListN.{length, getD, drop, drop-of-length-le}
 use lib.Seq.{drop-cons}
@@ -27,6 +28,14 @@ module _ {A : Type 0} (d : A) (l : List A) (i : ℕ) where
     pub any-end : length l ≤ i → any f (drop i l) ≡ false
     unfolding any
     any-end h = rw (drop-of-length-le l h)
+
+    -- a loop from the end down to slot i: b is what it kept from slot j on, v what this slot gives
+    pub any-back : (b v : Bool) {j : ℕ} → b ≡ any f (drop j l) → i + 1 ≡ j → i < length l → v ≡ f (getD l i d) → (v || b) ≡ any f (drop i l)
+    unfolding any
+    any-back b v q e h t = rw (rest h, e, sym q, sym t)
+
+    pub any-back-done : {b : Bool} → b ≡ any f (drop i l) → i ≤ 0 → b ≡ any f l
+    any-back-done {b} q h = let z : i ≡ 0 = omega arith in subst (λ n. b ≡ any f (drop n l)) z q
 
     pub all-here : i < length l → f (getD l i d) ≡ false → all f (drop i l) ≡ false
     unfolding all

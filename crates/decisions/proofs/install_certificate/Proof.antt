@@ -1,16 +1,18 @@
 use Prim.Native.Nat.{ℕ}
-use mathlib.Core.Bool.{not}
+use mathlib.Core.Bool.{not, _&&_}
 use mathlib.Core.Path.{_≡_, sym, ap, _∙_}
 use native.Mathlib.Omega.{arith}
+use lib.Dec.{eqb}
 use lib.ListN.{drop}
 use Rattle.records.specs.Phone.{decode}
 use Rattle.rules.specs.Forms.{with-kind, new-certificate}
-use Rattle.rules.specs.Codes.{code-of}
+use Rattle.rules.specs.Words.{any}
+use Rattle.rules.specs.Codes.{has-id, certificate-known, code-of}
+use Rattle.lookup.specs.Places.{first-place}
 use Rattle.lookup.proofs.Places.{place-none, place-some}
 use Rattle.decisions.proofs.Rows.{Gives, none, here, next, says}
 use Rattle.decisions.proofs.Codes.{install-rows, install-told}
 use Rattle.decisions.proofs.Plans.{refused, done}
-use Rattle.decisions.proofs.Named.{certificate-missing, certificate-found}
 use Rattle.decisions.proofs.Forms.{domain-below}
 use borrow.Author.Needs.{needs}
 use Rattle.decisions.proofs.install_certificate.Statement.{statement}
@@ -40,15 +42,20 @@ past-4 : (c : tie.Else4) {r : ℕ} → Past 4 (c .before .before .before .before
 past-4 c g = past-3 (c .before .before) (next (says (c .before .is-present .ensures) (c .if4 .left)) g)
 
 past-5 : (c : tie.Else5) {r : ℕ} → Past 5 (c .before .before .before .before .before .before .before .before .before .before .before) r
-past-5 c g =
-    let a = c .before .before .before .before .before .before .before .before .before .before .before .before .before .before .args in
-    past-4 (c .before .before .before)
-    (next (certificate-missing (decode (a .s .now)) _ (c .before .certificate-slot .ensures) (c .before .before .certificate-slots .ensures .0) (c .if5 .left)) g)
+unfolding certificate-known
+past-5 c g = past-4 (c .before .before .before) (next (sym (c .before .certificate-room .ensures .0) ∙ c .if5 .left) g)
 
-past-6 : (c : tie.Else6) {r : ℕ} → Past 6 (c .before .before .before .before .before .before .before .before .before .before .before .before .before) r
-past-6 c g = past-5 (c .before .before) (next (sym (c .before .key-elsewhere .ensures) ∙ c .if6 .left) g)
+-- where the id is new, the sweep tells of the key too, and the slot is the lowest free one
+elsewhere : (c : tie.Else5) → let a = c .before .before .before .before .before .before .before .before .before .before .before .before .before .before .args in c .before .certificate-room .result .elsewhere ≡ any (λ x. eqb (x .key) (a .e .key) && not (eqb (x .domain) (a .e .fourth))) (decode (a .s .now) .trust .certificates)
+elsewhere c = c .before .certificate-room .ensures .1 (c .if5 .left)
 
-past-7 : (c : tie.Else7) {r : ℕ} → Past 7 (c .before .before .before .before .before .before .before .before .before .before .before .before .before .before .before) r
+free : (c : tie.Else5) → c .before .certificate-room .result .slot ≡ first-place (has-id 0) (decode (c .before .before .before .before .before .before .before .before .before .before .before .before .before .before .args .s .now) .trust .certificates)
+free c = c .before .certificate-room .ensures .2 (c .if5 .left)
+
+past-6 : (c : tie.Else6) {r : ℕ} → Past 6 (c .before .before .before .before .before .before .before .before .before .before .before .before) r
+past-6 c g = past-5 (c .before) (next (sym (elsewhere (c .before)) ∙ c .if6 .left) g)
+
+past-7 : (c : tie.Else7) {r : ℕ} → Past 7 (c .before .before .before .before .before .before .before .before .before .before .before .before .before .before) r
 past-7 c g = past-6 (c .before .before) (next (sym (c .before .of-other-card .ensures) ∙ c .if7 .left) g)
 
 mode-requires : tie.Need-mode-requires
@@ -86,20 +93,15 @@ returns-4 c = refused (omega arith) (past-3 (c .before .before) (here (says (c .
 certificate-slots-requires : tie.Need-certificate-slots-requires
 certificate-slots-requires c κs = search needs
 
-certificate-slot-requires : tie.Need-certificate-slot-requires
-certificate-slot-requires c κs = search needs
+certificate-room-requires : tie.Need-certificate-room-requires
+certificate-room-requires c κs = search needs
 
 returns-5 : tie.Need-returns-5
-returns-5 c =
-    let a = c .before .before .before .before .before .before .before .before .before .before .before .before .before .before .args in
-    refused (omega arith) (past-4 (c .before .before .before)
-    (here (certificate-found (decode (a .s .now)) _ (c .before .certificate-slot .ensures) (c .before .before .certificate-slots .ensures .0) (c .if5 .taken))))
-
-key-elsewhere-requires : tie.Need-key-elsewhere-requires
-key-elsewhere-requires c κs = search needs
+unfolding certificate-known
+returns-5 c = refused (omega arith) (past-4 (c .before .before .before) (here (sym (c .before .certificate-room .ensures .0) ∙ c .if5 .taken)))
 
 returns-6 : tie.Need-returns-6
-returns-6 c = refused (omega arith) (past-5 (c .before .before) (here (sym (c .before .key-elsewhere .ensures) ∙ c .if6 .taken)))
+returns-6 c = refused (omega arith) (past-5 (c .before) (here (sym (elsewhere (c .before)) ∙ c .if6 .taken)))
 
 of-other-card-requires : tie.Need-of-other-card-requires
 of-other-card-requires c κs = search needs
@@ -107,19 +109,16 @@ of-other-card-requires c κs = search needs
 returns-7 : tie.Need-returns-7
 returns-7 c = refused (omega arith) (past-6 (c .before .before) (here (sym (c .before .of-other-card .ensures) ∙ c .if7 .taken)))
 
-certificate-slot-requires-2 : tie.Need-certificate-slot-requires-2
-certificate-slot-requires-2 c κs = search needs
-
 returns-8 : tie.Need-returns-8
 returns-8 c =
-    refused (omega arith) (past-7 (c .before .before)
-    (here (ap not (place-none _ _ (c .before .certificate-slot2 .ensures) (c .before .before .before .before .before .before .before .before .certificate-slots .ensures .0) (c .if8 .taken)))))
+    refused (omega arith) (past-7 (c .before)
+    (here (ap not (place-none _ _ (free (c .before .before .before .before)) (c .before .before .before .before .before .before .certificate-slots .ensures .0) (c .if8 .taken)))))
 
 returns-9 : tie.Need-returns-9
 returns-9 c =
-    done (c .before .certificate-slot2 .ensures) (omega arith)
-    (past-7 (c .before .before)
-    (next (ap not (place-some _ _ (c .before .certificate-slot2 .ensures) (c .before .before .before .before .before .before .before .before .certificate-slots .ensures .0) (c .if8 .left))) none))
+    done (free (c .before .before .before .before)) (omega arith)
+    (past-7 (c .before)
+    (next (ap not (place-some _ _ (free (c .before .before .before .before)) (c .before .before .before .before .before .before .certificate-slots .ensures .0) (c .if8 .left))) none))
 
 pub install-certificate-spec : {M : Type 1} → statement M
 install-certificate-spec =
@@ -136,12 +135,10 @@ install-certificate-spec =
     is-present-requires
     returns-4
     certificate-slots-requires
-    certificate-slot-requires
+    certificate-room-requires
     returns-5
-    key-elsewhere-requires
     returns-6
     of-other-card-requires
     returns-7
-    certificate-slot-requires-2
     returns-8
     returns-9)

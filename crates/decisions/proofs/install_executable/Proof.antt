@@ -1,16 +1,16 @@
 use Prim.Native.Nat.{ℕ}
 use mathlib.Core.Bool.{not}
-use mathlib.Core.Path.{_≡_, ap}
+use mathlib.Core.Path.{_≡_, sym, ap, _∙_}
 use native.Mathlib.Omega.{arith}
 use lib.ListN.{drop}
 use Rattle.records.specs.Phone.{decode}
 use Rattle.rules.specs.Forms.{with-kind}
-use Rattle.rules.specs.Codes.{code-of}
+use Rattle.rules.specs.Codes.{is-executable, executable-known, code-of}
+use Rattle.lookup.specs.Places.{first-place}
 use Rattle.lookup.proofs.Places.{place-none, place-some}
 use Rattle.decisions.proofs.Rows.{Gives, none, here, next, says}
 use Rattle.decisions.proofs.Codes.{install-executable-rows, install-executable-told}
 use Rattle.decisions.proofs.Plans.{refused, done}
-use Rattle.decisions.proofs.Named.{executable-missing, executable-found}
 use borrow.Author.Needs.{needs}
 use Rattle.decisions.proofs.install_executable.Statement.{statement}
 use Rattle.decisions.proofs.install_executable.Tie as tie
@@ -32,10 +32,12 @@ past-2 : (c : tie.Else2) {r : ℕ} → Past 2 (c .before .before .before .before
 past-2 c g = past-1 (c .before .before) (next (says (c .before .may-act .ensures) (c .if2 .left)) g)
 
 past-3 : (c : tie.Else3) {r : ℕ} → Past 3 (c .before .before .before .before .before .before .before .before) r
-past-3 c g =
-    let a = c .before .before .before .before .before .before .before .before .args in
-    past-2 (c .before .before .before)
-    (next (executable-missing (decode (a .s .now)) _ (c .before .executable-slot .ensures) (c .before .before .executable-slots .ensures .0) (c .if3 .left)) g)
+unfolding executable-known
+past-3 c g = past-2 (c .before .before .before) (next (sym (c .before .executable-room .ensures .0) ∙ c .if3 .left) g)
+
+-- the slot is the lowest free one
+free : (c : tie.Else3) → c .before .executable-room .result .slot ≡ first-place (is-executable 0) (decode (c .before .before .before .before .before .before .before .before .args .s .now) .executables)
+free c = c .before .executable-room .ensures .1 (c .if3 .left)
 
 executable-form-requires : tie.Need-executable-form-requires
 executable-form-requires c κs = search needs
@@ -52,28 +54,23 @@ returns-2 c = refused (omega arith) (past-1 (c .before .before) (here (says (c .
 executable-slots-requires : tie.Need-executable-slots-requires
 executable-slots-requires c κs = search needs
 
-executable-slot-requires : tie.Need-executable-slot-requires
-executable-slot-requires c κs = search needs
+executable-room-requires : tie.Need-executable-room-requires
+executable-room-requires c κs = search needs
 
 returns-3 : tie.Need-returns-3
-returns-3 c =
-    let a = c .before .before .before .before .before .before .before .before .args in
-    refused (omega arith) (past-2 (c .before .before .before)
-    (here (executable-found (decode (a .s .now)) _ (c .before .executable-slot .ensures) (c .before .before .executable-slots .ensures .0) (c .if3 .taken))))
-
-executable-slot-requires-2 : tie.Need-executable-slot-requires-2
-executable-slot-requires-2 c κs = search needs
+unfolding executable-known
+returns-3 c = refused (omega arith) (past-2 (c .before .before .before) (here (sym (c .before .executable-room .ensures .0) ∙ c .if3 .taken)))
 
 returns-4 : tie.Need-returns-4
 returns-4 c =
-    refused (omega arith) (past-3 (c .before .before)
-    (here (ap not (place-none _ _ (c .before .executable-slot2 .ensures) (c .before .before .before .before .executable-slots .ensures .0) (c .if4 .taken)))))
+    refused (omega arith) (past-3 (c .before)
+    (here (ap not (place-none _ _ (free (c .before)) (c .before .before .before .executable-slots .ensures .0) (c .if4 .taken)))))
 
 returns-5 : tie.Need-returns-5
 returns-5 c =
-    done (c .before .executable-slot2 .ensures) (omega arith)
-    (past-3 (c .before .before)
-    (next (ap not (place-some _ _ (c .before .executable-slot2 .ensures) (c .before .before .before .before .executable-slots .ensures .0) (c .if4 .left))) none))
+    done (free (c .before)) (omega arith)
+    (past-3 (c .before)
+    (next (ap not (place-some _ _ (free (c .before)) (c .before .before .before .executable-slots .ensures .0) (c .if4 .left))) none))
 
 pub install-executable-spec : {M : Type 1} → statement M
 install-executable-spec =
@@ -84,8 +81,7 @@ install-executable-spec =
     may-act-requires
     returns-2
     executable-slots-requires
-    executable-slot-requires
+    executable-room-requires
     returns-3
-    executable-slot-requires-2
     returns-4
     returns-5)

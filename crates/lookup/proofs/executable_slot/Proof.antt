@@ -3,9 +3,7 @@ use borrow.Author.Needs.{needs}
 use native.Mathlib.Omega.{arith}
 use Prim.Native.Nat.{_+_, _≤_, _-_}
 use lib.ListN.{length, drop}
-use mathlib.Core.Path.{_≡_, sym, ap, _∙_}
-use lib.Dec.{eqb}
-use borrow.Author.Tests.{eq-eqb, ne-eqb}
+use mathlib.Core.Path.{_≡_, sym, _∙_}
 use Rattle.records.specs.Phone.{decode, no-executable}
 use Rattle.rules.specs.Codes.{is-executable}
 use Rattle.lookup.specs.Places.{first-place}
@@ -25,11 +23,11 @@ executable-slots-requires c κs = search needs
 loop-holds : tie.Need-loop-holds Inv-loop μ-loop
 loop-holds c = (search needs, search needs, sym (zero-add _))
 
-executable-requires : tie.Need-executable-requires Inv-loop μ-loop
-executable-requires c κs = search needs
+executable-has-id-requires : tie.Need-executable-has-id-requires Inv-loop μ-loop
+executable-has-id-requires c κs = search needs
 
 returns : tie.Need-returns Inv-loop μ-loop
-returns c = place-here _ no-executable _ (c .before .before .before .before .loop .i) (c .before .before .before .before .loop .inv .2) (omega arith) (ap (λ x. eqb (x .id) (c .before .before .before .before .before .before .before .args .id)) (sym (c .before .before .executable .ensures)) ∙ eq-eqb _ _ (c .if1 .taken))
+returns c = place-here _ no-executable _ (c .before .before .before .loop .i) (c .before .before .before .loop .inv .2) (omega arith) (sym (c .before .executable-has-id .ensures) ∙ c .if1 .taken)
 
 add-i : tie.Need-add-i Inv-loop μ-loop
 add-i c = search needs
@@ -38,7 +36,7 @@ loop-less : tie.Need-loop-less Inv-loop μ-loop
 loop-less c = search needs
 
 loop-again : tie.Need-loop-again Inv-loop μ-loop
-loop-again c = (search needs, search needs, place-next _ no-executable _ (c .before .before .before .before .loop .i) (c .before .before .before .before .loop .inv .2) (omega arith) (ap (λ x. eqb (x .id) (c .before .before .before .before .before .before .before .args .id)) (sym (c .before .before .executable .ensures)) ∙ ne-eqb _ _ (c .if1 .left)))
+loop-again c = (search needs, search needs, place-next _ no-executable _ (c .before .before .before .loop .i) (c .before .before .before .loop .inv .2) (omega arith) (sym (c .before .executable-has-id .ensures) ∙ c .if1 .left))
 
 returns-2 : tie.Need-returns-2 Inv-loop μ-loop
 returns-2 c = (omega (arith, place-end _ no-executable _ (c .before .loop .i) (c .before .loop .inv .2) (omega arith)))
@@ -51,7 +49,7 @@ executable-slot-spec =
     μ-loop
     executable-slots-requires
     loop-holds
-    executable-requires
+    executable-has-id-requires
     returns
     add-i
     loop-less

@@ -1,0 +1,117 @@
+use borrow.Author.Needs.{needs}
+use borrow.Author.Tests.{not-true, not-false}
+use native.Mathlib.Omega.{arith}
+use Prim.Native.Nat.{ℕ, _+_, _≤_, _-_}
+use mathlib.Core.Bool.{Bool, false, not, _&&_, _||_, true≢false}
+use mathlib.Core.Path.{_≡_, sym, ap, _∙_}
+use lib.Dec.{eqb}
+use lib.ListN.{length, drop}
+use Rattle.records.specs.Phone.{decode, no-certificate}
+use Rattle.records.specs.declared.Certificate.{Certificate}
+use Rattle.rules.specs.Words.{any}
+use Rattle.rules.specs.Codes.{has-id}
+use Rattle.rules.proofs.Loops.{any-back, any-back-done, any-end}
+use Rattle.lookup.specs.Places.{first-place}
+use Rattle.lookup.proofs.Places.{place-back-here, place-back, place-back-done, place-back-end, somewhere}
+use Rattle.lookup.proofs.certificate_room.Statement.{statement}
+use Rattle.lookup.proofs.certificate_room.Tie as tie
+
+abbrev in-another : ℕ → ℕ → Certificate → Bool
+in-another key domain x = eqb (x .key) key && not (eqb (x .domain) domain)
+
+abbrev Inv-loop : tie.InvT-loop
+Inv-loop s id key domain slots elsewhere₀ slot₀ i₀ elsewhere slot i =
+    (i ≤ slots)
+    × (slots ≡ length (decode s .trust .certificates))
+    × (false ≡ any (has-id id) (drop i (decode s .trust .certificates)))
+    × (elsewhere ≡ any (in-another key domain) (drop i (decode s .trust .certificates)))
+    × (slot ≡ i + first-place (has-id 0) (drop i (decode s .trust .certificates)))
+
+abbrev μ-loop : tie.MeasureT-loop
+μ-loop s id key domain slots elsewhere₀ slot₀ i₀ elsewhere slot i = i
+
+certificate-slots-requires : tie.Need-certificate-slots-requires Inv-loop μ-loop
+certificate-slots-requires c κs = search needs
+
+loop-holds : tie.Need-loop-holds Inv-loop μ-loop
+loop-holds c = let n = c .certificate-slots .result in (search needs, search needs, sym (any-end no-certificate _ n _ (omega arith)), sym (any-end no-certificate _ n _ (omega arith)), place-back-end _ no-certificate _ n (omega arith))
+
+sub-i : tie.Need-sub-i Inv-loop μ-loop
+sub-i c = search needs
+
+certificate-has-id-requires : tie.Need-certificate-has-id-requires Inv-loop μ-loop
+certificate-has-id-requires c κs = search needs
+
+returns : tie.Need-returns Inv-loop μ-loop
+returns c =
+    let i = c .before .before .before .loop .i - 1 in
+    (sym (somewhere _ no-certificate _ i (omega arith) (sym (c .before .certificate-has-id .ensures) ∙ c .if1 .taken)), λ e. absurd (true≢false e), λ e. absurd (true≢false e))
+
+certificate-requires : tie.Need-certificate-requires Inv-loop μ-loop
+certificate-requires c κs = search needs
+
+certificate-has-id-requires-2 : tie.Need-certificate-has-id-requires-2 Inv-loop μ-loop
+certificate-has-id-requires-2 c κs = (search needs, omega arith)
+
+-- no slot from this one on has the id
+kept : (c : tie.Else1 Inv-loop μ-loop) → let a = c .before .before .before .before .before .before .args in false ≡ any (has-id (a .id)) (drop (c .before .before .before .loop .i - 1) (decode (a .s .now) .trust .certificates))
+kept c =
+    let v = c .before .before .before .loop in
+    any-back no-certificate _ (v .i - 1) _ false false {j = v .i} (v .inv .2) (omega arith) (omega arith) (sym (c .if1 .left) ∙ c .before .certificate-has-id .ensures)
+
+-- with this slot, whether a slot from it on has the key in another domain
+joined : (c : tie.After-certificate Inv-loop μ-loop) → let a = c .before .before .before .before .before .before .before .args in let v = c .before .before .before .before .loop in (in-another (a .key) (a .domain) (c .certificate .result) || v .elsewhere) ≡ any (in-another (a .key) (a .domain)) (drop (v .i - 1) (decode (a .s .now) .trust .certificates))
+joined c =
+    let a = c .before .before .before .before .before .before .before .args in
+    let v = c .before .before .before .before .loop in
+    any-back no-certificate _ (v .i - 1) (in-another (a .key) (a .domain)) (v .elsewhere) _ {j = v .i} (v .inv .3) (omega arith) (omega arith) (ap (in-another (a .key) (a .domain)) (c .certificate .ensures))
+
+loop-less : tie.Need-loop-less Inv-loop μ-loop
+loop-less c = search needs
+
+loop-again : tie.Need-loop-again Inv-loop μ-loop
+loop-again c =
+    let v = c .before .before .before .before .before .before .before .before .loop in (
+      omega arith,
+      search needs,
+      kept (c .before .before .before .before .before),
+      joined (c .before .before .before .before),
+      place-back _ no-certificate _ (v .i - 1) (v .inv .4) (omega arith) (omega arith) (sym (c .before .certificate-has-id2 .ensures) ∙ not-true _ (c .if2 .taken)),
+    )
+
+loop-less-2 : tie.Need-loop-less-2 Inv-loop μ-loop
+loop-less-2 c = search needs
+
+loop-again-2 : tie.Need-loop-again-2 Inv-loop μ-loop
+loop-again-2 c =
+    let v = c .before .before .before .before .before .before .before .before .loop in (
+      omega arith,
+      search needs,
+      kept (c .before .before .before .before .before),
+      joined (c .before .before .before .before),
+      place-back-here _ no-certificate _ (v .i - 1) (omega arith) (sym (c .before .certificate-has-id2 .ensures) ∙ not-false _ (c .if2 .left)),
+    )
+
+returns-2 : tie.Need-returns-2 Inv-loop μ-loop
+returns-2 c =
+    let v = c .before .loop in
+    (any-back-done no-certificate _ (v .i) _ (v .inv .2) (omega arith), λ _. any-back-done no-certificate _ (v .i) _ (v .inv .3) (omega arith), λ _. place-back-done _ no-certificate _ (v .i) (v .inv .4) (omega arith))
+
+pub certificate-room-spec : {M : Type 1} → statement M
+certificate-room-spec =
+    tie.close
+    (tie.spec
+    Inv-loop
+    μ-loop
+    certificate-slots-requires
+    loop-holds
+    sub-i
+    certificate-has-id-requires
+    returns
+    certificate-requires
+    certificate-has-id-requires-2
+    loop-less
+    loop-again
+    loop-less-2
+    loop-again-2
+    returns-2)

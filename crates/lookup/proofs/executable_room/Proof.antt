@@ -1,0 +1,98 @@
+use borrow.Author.Needs.{needs}
+use borrow.Author.Tests.{not-true, not-false}
+use native.Mathlib.Omega.{arith}
+use Prim.Native.Nat.{_+_, _≤_, _-_}
+use mathlib.Core.Bool.{false, true≢false}
+use mathlib.Core.Path.{_≡_, sym, _∙_}
+use lib.ListN.{length, drop}
+use Rattle.records.specs.Phone.{decode, no-executable}
+use Rattle.rules.specs.Words.{any}
+use Rattle.rules.specs.Codes.{is-executable}
+use Rattle.rules.proofs.Loops.{any-back, any-back-done, any-end}
+use Rattle.lookup.specs.Places.{first-place}
+use Rattle.lookup.proofs.Places.{place-back-here, place-back, place-back-done, place-back-end, somewhere}
+use Rattle.lookup.proofs.executable_room.Statement.{statement}
+use Rattle.lookup.proofs.executable_room.Tie as tie
+
+abbrev Inv-loop : tie.InvT-loop
+Inv-loop s id slots slot₀ i₀ slot i =
+    (i ≤ slots)
+    × (slots ≡ length (decode s .executables))
+    × (false ≡ any (is-executable id) (drop i (decode s .executables)))
+    × (slot ≡ i + first-place (is-executable 0) (drop i (decode s .executables)))
+
+abbrev μ-loop : tie.MeasureT-loop
+μ-loop s id slots slot₀ i₀ slot i = i
+
+executable-slots-requires : tie.Need-executable-slots-requires Inv-loop μ-loop
+executable-slots-requires c κs = search needs
+
+loop-holds : tie.Need-loop-holds Inv-loop μ-loop
+loop-holds c = let n = c .executable-slots .result in (search needs, search needs, sym (any-end no-executable _ n _ (omega arith)), place-back-end _ no-executable _ n (omega arith))
+
+sub-i : tie.Need-sub-i Inv-loop μ-loop
+sub-i c = search needs
+
+executable-has-id-requires : tie.Need-executable-has-id-requires Inv-loop μ-loop
+executable-has-id-requires c κs = search needs
+
+returns : tie.Need-returns Inv-loop μ-loop
+returns c =
+    let i = c .before .before .before .loop .i - 1 in
+    (sym (somewhere _ no-executable _ i (omega arith) (sym (c .before .executable-has-id .ensures) ∙ c .if1 .taken)), λ e. absurd (true≢false e))
+
+executable-has-id-requires-2 : tie.Need-executable-has-id-requires-2 Inv-loop μ-loop
+executable-has-id-requires-2 c κs = search needs
+
+-- no slot from this one on has the id
+kept : (c : tie.Else1 Inv-loop μ-loop) → let a = c .before .before .before .before .before .before .args in false ≡ any (is-executable (a .id)) (drop (c .before .before .before .loop .i - 1) (decode (a .s .now) .executables))
+kept c =
+    let v = c .before .before .before .loop in
+    any-back no-executable _ (v .i - 1) _ false false {j = v .i} (v .inv .2) (omega arith) (omega arith) (sym (c .if1 .left) ∙ c .before .executable-has-id .ensures)
+
+loop-less : tie.Need-loop-less Inv-loop μ-loop
+loop-less c = search needs
+
+loop-again : tie.Need-loop-again Inv-loop μ-loop
+loop-again c =
+    let v = c .before .before .before .before .before .loop in (
+      search needs,
+      search needs,
+      kept (c .before .before),
+      place-back _ no-executable _ (v .i - 1) (v .inv .3) (omega arith) (omega arith) (sym (c .before .executable-has-id2 .ensures) ∙ not-true _ (c .if2 .taken)),
+    )
+
+loop-less-2 : tie.Need-loop-less-2 Inv-loop μ-loop
+loop-less-2 c = search needs
+
+loop-again-2 : tie.Need-loop-again-2 Inv-loop μ-loop
+loop-again-2 c =
+    let v = c .before .before .before .before .before .loop in (
+      search needs,
+      search needs,
+      kept (c .before .before),
+      place-back-here _ no-executable _ (v .i - 1) (omega arith) (sym (c .before .executable-has-id2 .ensures) ∙ not-false _ (c .if2 .left)),
+    )
+
+returns-2 : tie.Need-returns-2 Inv-loop μ-loop
+returns-2 c =
+    let v = c .before .loop in
+    (any-back-done no-executable _ (v .i) _ (v .inv .2) (omega arith), λ _. place-back-done _ no-executable _ (v .i) (v .inv .3) (omega arith))
+
+pub executable-room-spec : {M : Type 1} → statement M
+executable-room-spec =
+    tie.close
+    (tie.spec
+    Inv-loop
+    μ-loop
+    executable-slots-requires
+    loop-holds
+    sub-i
+    executable-has-id-requires
+    returns
+    executable-has-id-requires-2
+    loop-less
+    loop-again
+    loop-less-2
+    loop-again-2
+    returns-2)
