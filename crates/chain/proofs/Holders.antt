@@ -18,8 +18,8 @@ use Rattle.rules.proofs.Lists.{any-out, any-in, find-in}
 use Rattle.rules.proofs.Loops.{find-here, find-next, find-end}
 use Rattle.rules.proofs.Least.{least-small, least-passes, least-least}
 use Rattle.rules.proofs.Domain.{chain-domain-is, chain-found}
-use Rattle.chain.specs.Table.{slot, Keyed, holder}
-use Rattle.chain.proofs.Counts.{good-up, serves-more}
+use Rattle.chain.specs.Keys.{slot, Keyed, holder}
+use Rattle.chain.proofs.Good.{good-up, serves-more}
 
 abbrev pub told : ℕ → ℕ → Chained
 told d n = record { domain = d; links = n }

@@ -1,6 +1,5 @@
-pub mod Counts
-pub mod Served
+pub mod Good
+pub mod Among
 pub mod Rounds
 pub mod Levels
-pub mod Flags
 pub mod Holders

@@ -1,26 +1,24 @@
-// The search for chains, twice: every slot's link count, for all executables at once, and the link count of one key.
-// For all slots there are at most four rounds. A round looks at each slot once, and from a slot that has no count yet at the slots found
-// in the round before. For one key there are at most four levels back from it. A level looks at each slot once, and at every slot again
-// only for a link of the level. Either way at most 4 * 64 * 64 pairs, whatever the image: no path is followed, so nothing grows with the
-// number of paths.
+// The search for chains, twice: the keys of all good records of one domain, for all its executables at once, and the link count of one key.
+// For a domain the records that can be in a chain are found first; then each of at most four rounds looks at each of them once, and at
+// the keys of the round before. For one key there are at most four levels back from it. A level looks at each slot once, and at the
+// keys of the level. Either way at most 4 * 64 * 64 pairs, whatever the image: no path is followed, so nothing grows with their number.
 use records::Certificate;
+use records::Executable;
 use records::image;
 use rules::Chained;
 ghost use mathlib.Core.Path.{_≡_};
-ghost use mathlib.Core.Bool.{Bool, false, _||_};
-ghost use Prim.Native.Nat.{ℕ, suc, _<_};
+ghost use mathlib.Core.Bool.{Bool, _&&_, _||_};
+ghost use Prim.Native.Nat.{ℕ, suc, _≤_, _<_};
 ghost use lib.Dec.{eqb};
-ghost use lib.ListN.{length, getD};
-ghost use Rattle.records.specs.Phone.{decode};
+ghost use lib.ListN.{length};
+ghost use Rattle.records.specs.Phone.{Trust, decode};
 ghost use Rattle.records.specs.Frame.{Framed};
-ghost use Rattle.records.specs.declared.Certificate.{Certificate};
-ghost use Rattle.rules.specs.Words.{any};
-ghost use Rattle.rules.specs.Chains.{present, in-date, valid-root, trusted-root, link, serves, good, chains-to, links, chain-of};
-ghost use Rattle.chain.specs.Table.{count, slot, Counted, of-key, next-place, among, Slots, Listed, Keyed, Flagged, Advanced, holder};
+ghost use Rattle.rules.specs.Chains.{present, in-date, valid-root, trusted-root, link, good, links, chain-of};
+ghost use Rattle.chain.specs.Keys.{slot, among, Lists, good-key, chained-in, candidate, Places, Candidates, Advanced, Keyed, holder};
 
-// The slots found in one round: the first ones of a list.
-struct Latest {
-    slots: [u8; 64],
+// What one level of the search back from a key found: a trusted root, or else the number of keys to look for next.
+struct Level {
+    found: bool,
     count: usize,
 }
 
@@ -58,152 +56,134 @@ fn is_link(s: &[u8], c: Certificate) -> bool
     (c.kind == 1) & in_date(image::clock(s), c) & is_present(s, c)
 }
 
-// Whether slot j has a count and is of this domain and key.
-fn serves(s: &[u8], table: &[u8; 64], domain: u8, key: u32, j: usize) -> bool
-    requires { ⌜ Framed (now s) ⌝ }
-    requires { ⌜ j < length (decode (now s) .trust .certificates) ⌝ }
-    ensures { λ r. ⌜ ((n : ℕ) → Counted n (decode (now (s .entry)) .trust) (now (table .entry)) → r ≡ serves (good n (decode (now (s .entry)) .trust)) domain key (slot (decode (now (s .entry)) .trust) j)) ⌝ }
-{
-    let c = image::certificate(s, j);
-    (c.domain == domain) & (c.key == key) & (table[j] != 0)
-}
-
-// Whether some slot has a count and is of this domain and key.
-fn is_served(s: &[u8], table: &[u8; 64], domain: u8, key: u32) -> bool
-    requires { ⌜ Framed (now s) ⌝ }
-    ensures { λ r. ⌜ ((n : ℕ) → Counted n (decode (now (s .entry)) .trust) (now (table .entry)) → r ≡ any (serves (good n (decode (now (s .entry)) .trust)) domain key) (decode (now (s .entry)) .trust .certificates)) ⌝ }
-{
-    let slots = image::certificate_slots(s);
-    let mut j: usize = 0;
-    while j < slots {
-        if serves(s, table, domain, key, j) {
-            return true;
-        }
-        j += 1;
-    }
-    false
-}
-
-// The place behind slot j in a list of the slots whose count is the last one, where k is the place for slot j.
-fn next_place(before: &[u8; 64], last: u8, j: usize, k: usize) -> usize
-    requires { ⌜ j < 64 ⌝ }
-    requires { ⌜ k < 64 ⌝ }
-    ensures { λ r. ⌜ r ≡ next-place (eqb (getD (now (before .entry)) j 0) last) k ⌝ }
-{
-    if before[j] == last {
-        return k + 1;
-    }
-    k
-}
-
-// The slots found in the round before round n: in it no others can serve a slot that has no count yet.
-fn found_last(s: &[u8], before: &[u8; 64], n: u8) -> Latest
-    requires { ⌜ Framed (now s) ⌝ }
-    ensures { λ r. ⌜ Slots (decode (now (s .entry)) .trust) (r .slots) (r .count) ⌝ }
-    ensures { λ r. ⌜ ((m : ℕ) → n ≡ suc m → Counted m (decode (now (s .entry)) .trust) (now (before .entry)) → Listed m (decode (now (s .entry)) .trust) (r .slots) (r .count)) ⌝ }
-{
-    let mut slots = [0u8; 64];
-    if n <= 1 {
-        return Latest { slots, count: 0 };
-    }
-    let last = n - 1;
-    let all = image::certificate_slots(s);
-    let mut count: usize = 0;
-    let mut j: usize = 0;
-    while j < all {
-        slots[count] = j as u8;
-        count = next_place(before, last, j, count);
-        j += 1;
-    }
-    Latest { slots, count }
-}
-
-// Whether slot i is of this domain and key, good or not.
-fn of_key(s: &[u8], domain: u8, key: u32, i: usize) -> bool
-    requires { ⌜ Framed (now s) ⌝ }
-    requires { ⌜ i < length (decode (now s) .trust .certificates) ⌝ }
-    ensures { λ r. ⌜ r ≡ of-key domain key (slot (decode (now (s .entry)) .trust) i) ⌝ }
-{
-    let c = image::certificate(s, i);
-    (c.domain == domain) & (c.key == key)
-}
-
-// Whether one of the first slots of a list is of this domain and key.
-fn is_among(s: &[u8], slots: &[u8; 64], count: usize, domain: u8, key: u32) -> bool
-    requires { ⌜ Framed (now s) ⌝ }
-    requires { ⌜ Slots (decode (now s) .trust) (now slots) count ⌝ }
-    ensures { λ r. ⌜ r ≡ among (λ j. of-key domain key (slot (decode (now (s .entry)) .trust) j)) (now (slots .entry)) count ⌝ }
+// Whether one of the first keys of a list is this one.
+fn is_among(keys: &[u32], count: usize, key: u32) -> bool
+    requires { ⌜ count ≤ length (now keys) ⌝ }
+    ensures { λ r. ⌜ r ≡ among (λ x. eqb x key) (now (keys .entry)) count ⌝ }
 {
     let mut k = count;
     while 0 < k {
         k -= 1;
-        if of_key(s, domain, key, slots[k] as usize) {
+        if keys[k] == key {
             return true;
         }
     }
     false
 }
 
-// Slot i's count after round n, from the counts before it and the slots that were found last.
-fn count_of(s: &[u8], before: &[u8; 64], slots: &[u8; 64], size: usize, n: u8, i: usize) -> u8
+// ---- the good keys of one domain
+
+// Whether c can be in a chain of this domain: a trusted root, or a link that lacks nothing but a good verifier.
+fn is_candidate(s: &[u8], domain: u8, c: Certificate) -> bool
     requires { ⌜ Framed (now s) ⌝ }
-    requires { ⌜ Slots (decode (now s) .trust) (now slots) size ⌝ }
-    requires { ⌜ i < length (decode (now s) .trust .certificates) ⌝ }
-    ensures { λ r. ⌜ ((m : ℕ) → n ≡ suc m → Counted m (decode (now (s .entry)) .trust) (now (before .entry)) → Listed m (decode (now (s .entry)) .trust) (now (slots .entry)) size → r ≡ count n (decode (now (s .entry)) .trust) (slot (decode (now (s .entry)) .trust) i)) ⌝ }
+    ensures { λ r. ⌜ r ≡ candidate (decode (now (s .entry)) .trust) domain c ⌝ }
 {
-    let found = before[i];
-    if found != 0 {
-        return found;
+    if c.domain != domain {
+        return false;
     }
-    let c = image::certificate(s, i);
-    if trusted_root(s, c) {
-        return n;
-    }
-    if !is_link(s, c) {
-        return 0;
-    }
-    if is_among(s, slots, size, c.domain, c.verifying) {
-        return n;
-    }
-    0
+    trusted_root(s, c) | is_link(s, c)
 }
 
-// One round: every slot's count after n links, from those after n - 1.
-fn round(s: &[u8], before: &[u8; 64], n: u8) -> [u8; 64]
+// Lists the slots that can be in a chain of this domain, and tells their number.
+fn candidates(s: &[u8], domain: u8, slots: &mut [u8]) -> usize
     requires { ⌜ Framed (now s) ⌝ }
-    ensures { λ r. ⌜ ((m : ℕ) → n ≡ suc m → Counted m (decode (now (s .entry)) .trust) (now (before .entry)) → Counted n (decode (now (s .entry)) .trust) r) ⌝ }
+    requires { ⌜ length (now slots) ≡ 64 ⌝ }
+    ensures { λ r. ⌜ Candidates (decode (now (s .entry)) .trust) domain (now (slots .exit)) r ⌝ }
 {
-    let latest = found_last(s, before, n);
-    let found = latest.slots;
-    let size = latest.count;
-    let slots = image::certificate_slots(s);
-    let mut after = [0u8; 64];
+    let all = image::certificate_slots(s);
+    let mut count: usize = 0;
     let mut i: usize = 0;
-    while i < slots {
-        after[i] = count_of(s, before, &found, size, n, i);
+    while i < all {
+        let here = i;
         i += 1;
+        if !is_candidate(s, domain, image::certificate(s, here)) {
+            continue;
+        }
+        slots[count] = here as u8;
+        count += 1;
     }
-    after
+    count
 }
 
-// "Recursion on the remaining links": every slot's count up to n.
-pub fn good_within(s: &[u8], n: u8) -> [u8; 64]
+// Whether a candidate is good within one link more than those whose keys are listed.
+fn is_reached(keys: &[u32], count: usize, c: Certificate) -> bool
+    requires { ⌜ count ≤ length (now keys) ⌝ }
+    ensures { λ r. ⌜ r ≡ (eqb (c .kind) 0 || among (λ x. eqb x (c .verifying)) (now (keys .entry)) count) ⌝ }
+{
+    if c.kind == 0 {
+        return true;
+    }
+    is_among(keys, count, c.verifying)
+}
+
+// One round: the keys of the candidates that are good within n links, from the keys of those within n - 1.
+fn round(
+    s: &[u8],
+    slots: &[u8; 64],
+    size: usize,
+    before: &[u32],
+    count: usize,
+    after: &mut [u32],
+) -> usize
     requires { ⌜ Framed (now s) ⌝ }
-    ensures { λ r. ⌜ Counted n (decode (now (s .entry)) .trust) r ⌝ }
+    requires { ⌜ Places (decode (now s) .trust) (now slots) size ⌝ }
+    requires { ⌜ (count ≤ length (now before)) × (length (now after) ≡ 64) ⌝ }
+    ensures { λ r. ⌜ r ≤ size ⌝ }
+    ensures { λ r. ⌜ ((n d : ℕ) → Candidates (decode (now (s .entry)) .trust) d (now (slots .entry)) size → Lists (good-key n (decode (now (s .entry)) .trust) d) (now (before .entry)) count → Lists (good-key (suc n) (decode (now (s .entry)) .trust) d) (now (after .exit)) r) ⌝ }
+{
+    let mut found: usize = 0;
+    let mut k = size;
+    while 0 < k {
+        k -= 1;
+        let c = image::certificate(s, slots[k] as usize);
+        if !is_reached(before, count, c) {
+            continue;
+        }
+        after[found] = c.key;
+        found += 1;
+    }
+    found
+}
+
+// "Recursion on the remaining links": the keys of the candidates that are good within n.
+fn good_within(s: &[u8], slots: &[u8; 64], size: usize, n: u8, keys: &mut [u32]) -> usize
+    requires { ⌜ Framed (now s) ⌝ }
+    requires { ⌜ Places (decode (now s) .trust) (now slots) size ⌝ }
+    requires { ⌜ length (now keys) ≡ 64 ⌝ }
+    ensures { λ r. ⌜ r ≤ size ⌝ }
+    ensures { λ r. ⌜ ((d : ℕ) → Candidates (decode (now (s .entry)) .trust) d (now (slots .entry)) size → Lists (good-key n (decode (now (s .entry)) .trust) d) (now (keys .exit)) r) ⌝ }
 {
     if n == 0 {
-        return [0u8; 64];
+        return 0;
     }
-    let before = good_within(s, n - 1);
-    round(s, &before, n)
+    let mut before = [0u32; 64];
+    let count = good_within(s, slots, size, n - 1, &mut before);
+    round(s, slots, size, &before, count, keys)
 }
 
-// The table of all slots: found once, it serves for every key.
-pub fn table(s: &[u8]) -> [u8; 64]
+// The keys of all good records of a domain: found once, they serve for all its executables.
+pub fn good_keys(s: &[u8], domain: u8, keys: &mut [u32]) -> usize
     requires { ⌜ Framed (now s) ⌝ }
-    ensures { λ r. ⌜ Counted 4 (decode (now (s .entry)) .trust) r ⌝ }
+    requires { ⌜ length (now keys) ≡ 64 ⌝ }
+    ensures { λ r. ⌜ Lists (good-key 4 (decode (now (s .entry)) .trust) domain) (now (keys .exit)) r ⌝ }
 {
-    good_within(s, 4)
+    let mut slots = [0u8; 64];
+    let size = candidates(s, domain, &mut slots);
+    good_within(s, &slots, size, 4, keys)
+}
+
+// Whether x chains to a domain, if that is its domain, by the good keys of the domain.
+pub fn is_chained(domain: u8, keys: &[u32], count: usize, x: Executable) -> bool
+    requires { ⌜ count ≤ length (now keys) ⌝ }
+    ensures { λ r. ⌜ ((t : Trust) → Lists (good-key 4 t domain) (now (keys .entry)) count → r ≡ chained-in domain t x) ⌝ }
+{
+    if x.domain != domain {
+        return true;
+    }
+    if x.signing == 0 {
+        return false;
+    }
+    is_among(keys, count, x.signing)
 }
 
 // Whether slot i is good within n links.
@@ -212,62 +192,72 @@ pub fn is_good(s: &[u8], n: u8, i: usize) -> bool
     requires { ⌜ i < length (decode (now s) .trust .certificates) ⌝ }
     ensures { λ r. ⌜ r ≡ good n (decode (now (s .entry)) .trust) (slot (decode (now (s .entry)) .trust) i) ⌝ }
 {
-    let counts = good_within(s, n);
-    counts[i] != 0
-}
-
-// Whether a signing key chains to a domain.
-pub fn chains_to(s: &[u8], table: &[u8; 64], key: u32, domain: u8) -> bool
-    requires { ⌜ Framed (now s) ⌝ }
-    requires { ⌜ Counted 4 (decode (now s) .trust) (now table) ⌝ }
-    ensures { λ r. ⌜ r ≡ chains-to (decode (now (s .entry)) .trust) key domain ⌝ }
-{
-    if key == 0 {
+    if n == 0 {
         return false;
     }
-    is_served(s, table, domain, key)
+    let c = image::certificate(s, i);
+    let mut slots = [0u8; 64];
+    let size = candidates(s, c.domain, &mut slots);
+    let mut keys = [0u32; 64];
+    let count = good_within(s, &slots, size, n - 1, &mut keys);
+    is_candidate(s, c.domain, c) & is_reached(&keys, count, c)
 }
 
 // ---- one key alone, by a search back from it
 
-// Flags the slots of a domain and key beside those that are flagged: every one of them, since a good one may stand anywhere.
-fn mark(s: &[u8], level: &mut [u8], domain: u8, key: u32)
-    requires { ⌜ Framed (now s) ⌝ }
-    requires { ⌜ length (now level) ≡ 64 ⌝ }
-    ensures { λ _. ⌜ ((p : Certificate → Bool) → Flagged (decode (now (s .entry)) .trust) p (now (level .entry)) → Flagged (decode (now (s .entry)) .trust) (λ c. of-key domain key c || p c) (now (level .exit))) ⌝ }
+// Whether c is of the domain and has one of the keys that are looked for.
+fn is_wanted(domain: u8, wanted: &[u32], count: usize, c: Certificate) -> bool
+    requires { ⌜ count ≤ length (now wanted) ⌝ }
+    ensures { λ r. ⌜ r ≡ (eqb (c .domain) domain && among (λ x. eqb x (c .key)) (now (wanted .entry)) count) ⌝ }
 {
-    let mut i = image::certificate_slots(s);
-    while 0 < i {
-        i -= 1;
-        if !of_key(s, domain, key, i) {
-            continue;
-        }
-        level[i] = 1;
+    if c.domain != domain {
+        return false;
     }
+    is_among(wanted, count, c.key)
 }
 
-// Whether a flagged slot is a trusted root. Where none is, `next`, which came empty, has the slots that may verify a flagged link.
-fn advance(s: &[u8], level: &[u8; 64], next: &mut [u8]) -> bool
+// Whether a record with one of the keys looked for is a trusted root. Where none is, `next` has the verifying keys of the links
+// among them, each once: every record is looked at, since a good one may stand anywhere.
+fn search_level(s: &[u8], domain: u8, wanted: &[u32], count: usize, next: &mut [u32]) -> Level
     requires { ⌜ Framed (now s) ⌝ }
-    requires { ⌜ length (now next) ≡ 64 ⌝ }
-    ensures { λ r. ⌜ ((p : Certificate → Bool) → Flagged (decode (now (s .entry)) .trust) p (now (level .entry)) → Flagged (decode (now (s .entry)) .trust) (λ _. false) (now (next .entry)) → Advanced (decode (now (s .entry)) .trust) p r (now (next .exit))) ⌝ }
+    requires { ⌜ (count ≤ length (now wanted)) × (length (now next) ≡ 64) ⌝ }
+    ensures { λ r. ⌜ r .count ≤ 64 ⌝ }
+    ensures { λ r. ⌜ ((p : ℕ → Bool) → Lists p (now (wanted .entry)) count → Advanced (decode (now (s .entry)) .trust) domain p (r .found) (now (next .exit)) (r .count)) ⌝ }
 {
-    let mut j = image::certificate_slots(s);
-    while 0 < j {
-        j -= 1;
-        if level[j] == 0 {
+    if count == 0 {
+        return Level {
+            found: false,
+            count: 0,
+        };
+    }
+    let slots = image::certificate_slots(s);
+    let mut size: usize = 0;
+    let mut i: usize = 0;
+    while i < slots {
+        let c = image::certificate(s, i);
+        i += 1;
+        if !is_wanted(domain, wanted, count, c) {
             continue;
         }
-        let c = image::certificate(s, j);
         if trusted_root(s, c) {
-            return true;
+            return Level {
+                found: true,
+                count: 0,
+            };
         }
         if !is_link(s, c) {
             continue;
         }
-        mark(s, next, c.domain, c.verifying);
+        if is_among(next, size, c.verifying) {
+            continue;
+        }
+        next[size] = c.verifying;
+        size += 1;
     }
-    false
+    Level {
+        found: false,
+        count: size,
+    }
 }
 
 // The link count of a signing key for a domain: how many levels back the first trusted root stands.
@@ -278,22 +268,25 @@ pub fn links_of(s: &[u8], key: u32, domain: u8) -> u8
     if (key == 0) | (domain == 0) {
         return 0;
     }
-    let mut first = [0u8; 64];
-    mark(s, &mut first, domain, key);
-    let mut second = [0u8; 64];
-    if advance(s, &first, &mut second) {
+    let first = [key; 1];
+    let mut second = [0u32; 64];
+    let one = search_level(s, domain, &first, 1, &mut second);
+    if one.found {
         return 1;
     }
-    let mut third = [0u8; 64];
-    if advance(s, &second, &mut third) {
+    let mut third = [0u32; 64];
+    let two = search_level(s, domain, &second, one.count, &mut third);
+    if two.found {
         return 2;
     }
-    let mut fourth = [0u8; 64];
-    if advance(s, &third, &mut fourth) {
+    let mut fourth = [0u32; 64];
+    let three = search_level(s, domain, &third, two.count, &mut fourth);
+    if three.found {
         return 3;
     }
-    let mut fifth = [0u8; 64];
-    if advance(s, &fourth, &mut fifth) {
+    let mut fifth = [0u32; 64];
+    let four = search_level(s, domain, &fourth, three.count, &mut fifth);
+    if four.found {
         return 4;
     }
     0

@@ -1,7 +1,7 @@
 -- A write of one field, the old value or the new, makes the record that the rules make. Assumes nothing.
 use Prim.Native.Nat.{ℕ}
-use mathlib.Core.Bool.{Bool, true, false, cond, _||_}
-use mathlib.Core.Path.{_≡_, refl, ap, _∙_}
+use mathlib.Core.Bool.{Bool, true, false, cond, not, _&&_, _||_}
+use mathlib.Core.Path.{_≡_, refl, sym, ap, _∙_}
 use lib.Dec.{eqb}
 use Rattle.records.specs.Phone.{Trust, marked, enabling, in-domain, permitted}
 use Rattle.records.specs.declared.Certificate.{Certificate}
@@ -9,10 +9,11 @@ use Rattle.records.specs.declared.Executable.{Executable}
 use Rattle.records.specs.declared.Event.{Event}
 use Rattle.rules.specs.declared.Chained.{Chained}
 use Rattle.rules.specs.Words.{at}
-use Rattle.rules.specs.Chains.{chains-to, chain-of}
+use Rattle.rules.specs.Chains.{chain-of}
+use Rattle.chain.specs.Keys.{chained-in}
 use Rattle.rules.specs.ImageRules.{third-party-root}
-use Rattle.rules.specs.Effects.{enabled-by, settled}
-use Rattle.effects.specs.Sweeps.{outgoing, retire}
+use Rattle.rules.specs.Effects.{enabled-by}
+use Rattle.effects.specs.Sweeps.{outgoing, retire, disables, settled-in}
 
 -- ---- x is what was read, and c or y what stands in the slot
 
@@ -25,20 +26,28 @@ retire-written every operator {x} {c} e q =
     go true = refl
     go false = refl
 
-pub enabled-written : (e : Event) {x c : Certificate} {m : ℕ} → m ≡ cond (third-party-root x) (enabled-by e x) (x .enabled) → x ≡ c
-    → enabling m c ≡ at third-party-root (λ c. enabling (enabled-by e c) c) c
-enabled-written e {x} {c} h q =
-    ap (λ m. enabling m c) (h ∙ ap (λ x. cond (third-party-root x) (enabled-by e x) (x .enabled)) q) ∙ go (third-party-root c)
-  where
-    go : (b : Bool) → enabling (cond b (enabled-by e c) (c .enabled)) c ≡ cond b (enabling (enabled-by e c) c) c
-    go true = refl
-    go false = refl
+-- a third party root is written, and any other record is not
+module _ (e : Event) {x c : Certificate} (q : x ≡ c) where
+  pub enabled-written : {m : ℕ} → m ≡ enabled-by e x → third-party-root x ≡ true → enabling m c ≡ at third-party-root (λ c. enabling (enabled-by e c) c) c
+  enabled-written h t =
+      ap (λ m. enabling m c) (h ∙ ap (enabled-by e) q) ∙ ap (λ b. cond b (enabling (enabled-by e c) c) c) (sym t ∙ ap (λ x. third-party-root x) q)
 
-pub settled-written : {t u : Trust} {x y : Executable} {d : ℕ} → d ≡ settled t x .domain → t ≡ u → x ≡ y → in-domain d y ≡ settled u y
-unfolding settled
-settled-written {t} {u} {x} {y} e p q =
-    ap (λ d. in-domain d y) (e ∙ ap (λ t. settled t x .domain) p ∙ ap (λ x. settled u x .domain) q)
-    ∙ go (eqb (y .domain) 0 || chains-to u (y .signing) (y .domain))
+  pub enabled-skipped : third-party-root x ≡ false → c ≡ at third-party-root (λ c. enabling (enabled-by e c) c) c
+  enabled-skipped t = ap (λ b. cond b (enabling (enabled-by e c) c) c) (sym t ∙ ap (λ x. third-party-root x) q)
+
+  pub disables-told : {m : ℕ} → m ≡ enabled-by e x → third-party-root x ≡ true → (eqb (x .enabled) 1 && not (eqb m 1)) ≡ disables e c
+  unfolding disables
+  disables-told h t =
+      ap (λ m. eqb (x .enabled) 1 && not (eqb m 1)) h ∙ ap (λ b. b && eqb (x .enabled) 1 && not (eqb (enabled-by e x) 1)) (sym t) ∙ ap (disables e) q
+
+  pub disables-none : third-party-root x ≡ false → disables e c ≡ false
+  unfolding disables
+  disables-none t = ap (disables e) (sym q) ∙ ap (λ b. b && eqb (x .enabled) 1 && not (eqb (enabled-by e x) 1)) t
+
+pub settled-written : (n : ℕ) {t u : Trust} {x y : Executable} {d : ℕ} → d ≡ settled-in n t x .domain → t ≡ u → x ≡ y → in-domain d y ≡ settled-in n u y
+unfolding settled-in
+settled-written n {t} {u} {x} {y} e p q =
+    ap (λ d. in-domain d y) (e ∙ ap (λ t. settled-in n t x .domain) p ∙ ap (λ x. settled-in n u x .domain) q) ∙ go (chained-in n u y)
   where
     go : (b : Bool) → in-domain (cond b y (in-domain 0 y) .domain) y ≡ cond b y (in-domain 0 y)
     go true = refl

@@ -3,3 +3,4 @@ pub mod Sweeps
 pub mod Places
 pub mod Fields
 pub mod Marking
+pub mod Domains

@@ -1,13 +1,17 @@
 -- A loop that writes f of each slot in its place: what it has done after i of them, in a list and in an image. Assumes nothing.
 use Prim.Native.Nat.{ℕ, zero, suc, _+_, _≤_, _<_}
+use mathlib.Core.Bool.{Bool, false, _||_, or-false, or-assoc}
 use mathlib.Core.List.{List, [], _∷_, map}
 use mathlib.Core.Path.{_≡_, refl, sym, ap, _∙_, subst}
 use native.Mathlib.Nat.{le-of-suc-le-suc, not-suc-le-zero}
 use native.Mathlib.Numerals.{add-one}
 use native.Mathlib.Omega.{arith}
-use lib.ListN.{length, getD, set, length-set}
+use lib.ListN.{length, getD, drop, set, length-set}
+use lib.Seq.{set-getD, drop-cons}
 use Rattle.records.specs.Phone.{Phone, decode, encode}
 use Rattle.records.specs.Frame.{Framed}
+use Rattle.rules.specs.Words.{any}
+use Rattle.rules.proofs.Loops.{any-next, any-end}
 use Rattle.effects.specs.Sweeps.{swept}
 use Rattle.effects.proofs.Parts.{Part, says, framed-as}
 
@@ -31,6 +35,20 @@ module _ {A : Type 0} (f : A → A) where
 
   pub swept-next : (d : A) (l : List A) (i : ℕ) → i < length l → set (swept f i l) i (f (getD l i d)) ≡ swept f (i + 1) l
   swept-next d l i h = swept-suc d l i h ∙ ap (λ n. swept f n l) (sym (add-one i))
+
+-- what a loop has gathered of a test, and what is to come
+module _ {A : Type 0} (t : A → Bool) (d : A) (l : List A) (i : ℕ) (b : Bool) {w : Bool} where
+  pub gathers : {c : Bool} → (b || any t (drop i l)) ≡ w → i < length l → c ≡ t (getD l i d) → (b || c || any t (drop (i + 1) l)) ≡ w
+  unfolding any
+  gathers {c} inv h e =
+      or-assoc b c (any t (drop (i + 1) l)) ∙ ap (λ c. b || (c || any t (drop (i + 1) l))) e
+      ∙ ap (λ n. b || (t (getD l i d) || any t (drop n l))) (add-one i) ∙ ap (λ r. b || any t r) (sym (drop-cons l i d h)) ∙ inv
+
+  pub gathers-none : (b || any t (drop i l)) ≡ w → i < length l → t (getD l i d) ≡ false → (b || any t (drop (i + 1) l)) ≡ w
+  gathers-none inv h e = ap (λ c. b || c) (sym (any-next d l i t h e)) ∙ inv
+
+  pub gathered : (b || any t (drop i l)) ≡ w → length l ≤ i → b ≡ w
+  gathered inv h = sym (or-false b) ∙ ap (λ c. b || c) (sym (any-end d l i t h)) ∙ inv
 
 -- ---- in an image
 
@@ -78,6 +96,19 @@ module _ {A : Type 0} (k : Part A) (f : A → A) where
             ∙ ap (λ p. k .put (set (k .slots p) i (f (getD (k .slots p) i (k .none)))) p) (z .phone)
             ∙ next-phone (decode s₀) i (subst (λ n. i < n) (z .every-slot) h);
       }
+
+  -- slot i is still as it was
+  pub sweep-here : {s₀ s : List ℕ} {slots i : ℕ} → Sweeping k f s₀ s slots i → getD (k .slots (decode s)) i (k .none) ≡ getD (k .slots (decode s₀)) i (k .none)
+  sweep-here {s₀} {s} {slots} {i} z =
+      ap (λ p. getD (k .slots p) i (k .none)) (z .phone) ∙ ap (λ l. getD l i (k .none)) (k .put-slots (swept f i (k .slots (decode s₀))) (decode s₀))
+      ∙ swept-here f (k .none) (k .slots (decode s₀)) i
+
+  -- nothing is to be done to slot i
+  pub sweep-skips : {s₀ s : List ℕ} {slots i : ℕ} → Sweeping k f s₀ s slots i → i < slots → getD (k .slots (decode s)) i (k .none) ≡ f (getD (k .slots (decode s)) i (k .none))
+      → Sweeping k f s₀ s slots (i + 1)
+  sweep-skips {s₀} {s} {slots} {i} z h e =
+      sweep-goes-on z h refl e
+      (z .framed .shaped ∙ ap encode (sym (k .put-same (decode s))) ∙ ap (λ l. encode (k .put l (decode s))) (sym (set-getD (k .slots (decode s)) i (k .none))))
 
   pub sweep-said : {s₀ s : List ℕ} {slots i : ℕ} → Sweeping k f s₀ s slots i → slots ≤ i → decode s ≡ k .put (map f (k .slots (decode s₀))) (decode s₀)
   sweep-said {s₀} {s} {slots} {i} z h =

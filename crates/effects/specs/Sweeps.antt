@@ -1,14 +1,17 @@
--- What a loop over slots has done after i of them. Definitions only.
-use Prim.Native.Nat.{ℕ}
-use mathlib.Core.Bool.{Bool, not, _&&_, _||_}
-use mathlib.Core.List.{List, _++_, map}
+-- What a loop over slots has done after i of them, and what it does to one and tells of it. Definitions only.
+use Prim.Native.Nat.{ℕ, _≤_}
+use mathlib.Core.Bool.{Bool, cond, not, _&&_, _||_}
+use mathlib.Core.List.{List, _++_, map, List·Memᴰ}
 use lib.Dec.{eqb}
 use lib.ListN.{take, drop}
-use Rattle.records.specs.Phone.{Phone, with-certificates, with-executables, marked}
+use Rattle.records.specs.Phone.{Trust, Phone, with-certificates, with-executables, marked, in-domain}
 use Rattle.records.specs.declared.Certificate.{Certificate}
 use Rattle.records.specs.declared.Executable.{Executable}
+use Rattle.records.specs.declared.Event.{Event}
 use Rattle.rules.specs.Words.{at}
-use Rattle.rules.specs.Effects.{phone-operator-root}
+use Rattle.rules.specs.ImageRules.{third-party-root}
+use Rattle.rules.specs.Effects.{phone-operator-root, enabled-by}
+use Rattle.chain.specs.Keys.{chained-in}
 
 -- the first i elements changed by f, the rest as they were
 abbrev pub swept : {A : Type 0} → (A → A) → ℕ → List A → List A
@@ -20,3 +23,20 @@ outgoing every operator c = phone-operator-root c && (every || not (eqb (c .owne
 
 abbrev pub retire : Bool → ℕ → Certificate → Certificate
 retire every operator = at (outgoing every operator) (marked 0)
+
+-- a third party root that is enabled, and no longer after a message
+unfoldable pub disables : Event → Certificate → Bool
+disables e c = third-party-root c && eqb (c .enabled) 1 && not (eqb (enabled-by e c) 1)
+
+-- ---- settling, a domain at a time
+
+-- an executable with domain d that no longer chains to it
+unfoldable pub settled-in : ℕ → Trust → Executable → Executable
+settled-in d t x = cond (chained-in d t x) x (in-domain 0 x)
+
+unfoldable pub settle-in : ℕ → Phone → Phone
+settle-in d p = with-executables (map (settled-in d (p .trust)) (p .executables)) p
+
+-- every executable has a domain from 0 to 3
+pub record Domains-known (p : Phone) : Type 0 where
+  pub known : (x : Executable) → List·Memᴰ x (p .executables) → x .domain ≤ 3

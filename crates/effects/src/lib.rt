@@ -4,24 +4,23 @@ use records::Event;
 use records::Executable;
 use records::image;
 use rules::Chained;
-ghost use mathlib.Core.Bool.{cond};
 ghost use mathlib.Core.List.{map};
 ghost use mathlib.Core.Path.{_≡_};
 ghost use Prim.Native.Nat.{_≤_, _<_};
 ghost use lib.Dec.{eqb};
 ghost use lib.ListN.{length};
-ghost use Rattle.records.specs.Phone.{decode, encode, with-certificates, with-executables, executable-at};
+ghost use Rattle.records.specs.Phone.{Trust, decode, encode, with-card, with-certificates, with-executables, executable-at};
 ghost use Rattle.records.specs.Frame.{Framed};
 ghost use Rattle.rules.specs.Words.{any, fill};
 ghost use Rattle.rules.specs.Chains.{chain-of};
-ghost use Rattle.rules.specs.ImageRules.{free-certificate, third-party-root};
+ghost use Rattle.rules.specs.ImageRules.{free-certificate};
 ghost use Rattle.rules.specs.Forms.{listed};
 ghost use Rattle.rules.specs.Codes.{has-id, is-executable};
-ghost use Rattle.rules.specs.Effects.{tick, card-rule, card-in, card-out, power-up, delete-certificate, on-a-card, mark-valid, mark-invalid, enabled-by, message, install-executable, delete-executable, verify, give, withdraw, settled, settle};
-ghost use Rattle.chain.specs.Table.{Counted};
+ghost use Rattle.rules.specs.Effects.{tick, card-rule, card-in, card-out, power-up, delete-certificate, on-a-card, mark-valid, mark-invalid, enabled-by, message, install-executable, delete-executable, verify, give, withdraw, settle};
+ghost use Rattle.chain.specs.Keys.{Lists, good-key};
 ghost use Rattle.lookup.specs.Places.{first-place};
 ghost use Rattle.opening.specs.Opened.{Accepted-image};
-ghost use Rattle.effects.specs.Sweeps.{outgoing, retire};
+ghost use Rattle.effects.specs.Sweeps.{outgoing, retire, disables, settled-in, settle-in, Domains-known};
 
 // ---- clock and card
 
@@ -66,12 +65,20 @@ fn card_rule(s: &mut [u8])
     retire(s, owned, operator);
 }
 
+// 2 without its card rule: all of it where no operator root on the phone is valid.
+pub fn card_only(s: &mut [u8], e: Event)
+    requires { ⌜ Framed (now s) ⌝ }
+    ensures { λ _. ⌜ now (s .exit) ≡ encode (with-card (e .second) (decode (now (s .entry)))) ⌝ }
+{
+    image::set_card(s, e.second);
+}
+
 // 2
 pub fn card_in(s: &mut [u8], e: Event)
     requires { ⌜ Framed (now s) ⌝ }
     ensures { λ _. ⌜ now (s .exit) ≡ encode (card-in e (decode (now (s .entry)))) ⌝ }
 {
-    image::set_card(s, e.second);
+    card_only(s, e);
     card_rule(s);
 }
 
@@ -170,7 +177,7 @@ fn is_listed(e: Event, id: u16) -> bool
 }
 
 // What a message makes of `enabled`.
-pub fn enabled_by(e: Event, c: Certificate) -> u8
+fn enabled_by(e: Event, c: Certificate) -> u8
     requires { ⌜ e .fourth ≤ 8 ⌝ }
     ensures { λ r. ⌜ r ≡ enabled-by e c ⌝ }
 {
@@ -186,31 +193,28 @@ pub fn enabled_by(e: Event, c: Certificate) -> u8
     0
 }
 
-// The same for any certificate: only third party roots are touched.
-fn enabled_after(e: Event, c: Certificate) -> u8
-    requires { ⌜ e .fourth ≤ 8 ⌝ }
-    ensures { λ r. ⌜ r ≡ cond (third-party-root c) (enabled-by e c) (c .enabled) ⌝ }
-{
-    if (c.kind == 0) & (c.domain == 3) {
-        return enabled_by(e, c);
-    }
-    c.enabled
-}
-
-// 9
-pub fn message(s: &mut [u8], e: Event)
+// 9: it also tells whether it disables a root that is enabled: only then can it break a chain.
+pub fn message(s: &mut [u8], e: Event) -> bool
     requires { ⌜ Framed (now s) ⌝ }
     requires { ⌜ e .fourth ≤ 8 ⌝ }
-    ensures { λ _. ⌜ now (s .exit) ≡ encode (message e (decode (now (s .entry)))) ⌝ }
+    ensures { λ r. ⌜ (now (s .exit) ≡ encode (message e (decode (now (s .entry))))) × (r ≡ any (disables e) (decode (now (s .entry)) .trust .certificates)) ⌝ }
 {
     let slots = image::certificate_slots(s);
+    let mut broken = false;
     let mut i: usize = 0;
     while i < slots {
-        let enabled = enabled_after(e, image::certificate(s, i));
+        let c = image::certificate(s, i);
+        if !((c.kind == 0) & (c.domain == 3)) {
+            i += 1;
+            continue;
+        }
+        let enabled = enabled_by(e, c);
         image::set_enabled(s, i, enabled);
+        broken = broken | ((c.enabled == 1) & (enabled != 1));
         i += 1;
     }
     image::set_mode(s, e.third as u16);
+    broken
 }
 
 // ---- executables
@@ -284,40 +288,49 @@ pub fn withdraw(s: &mut [u8], e: Event, slot: usize)
 
 // ---- settling
 
-// The domain of x after settling: 0 where it no longer chains to the one that it has.
-fn settled_domain(s: &[u8], table: &[u8; 64], x: Executable) -> u8
-    requires { ⌜ Framed (now s) ⌝ }
-    requires { ⌜ Counted 4 (decode (now s) .trust) (now table) ⌝ }
-    ensures { λ r. ⌜ r ≡ settled (decode (now (s .entry)) .trust) x .domain ⌝ }
+// The domain of x after the executables of one domain are settled, by the good keys of the domain.
+fn settled_domain(domain: u8, keys: &[u32], count: usize, x: Executable) -> u8
+    requires { ⌜ count ≤ length (now keys) ⌝ }
+    ensures { λ r. ⌜ ((t : Trust) → Lists (good-key 4 t domain) (now (keys .entry)) count → r ≡ settled-in domain t x .domain) ⌝ }
 {
-    if x.domain == 0 {
-        return 0;
-    }
-    if chain::chains_to(s, table, x.signing, x.domain) {
+    if chain::is_chained(domain, keys, count, x) {
         return x.domain;
     }
     0
 }
 
-fn settle_by(s: &mut [u8], table: &[u8; 64])
+fn settle_by(s: &mut [u8], domain: u8, keys: &[u32], count: usize)
     requires { ⌜ Framed (now s) ⌝ }
-    requires { ⌜ Counted 4 (decode (now s) .trust) (now table) ⌝ }
-    ensures { λ _. ⌜ now (s .exit) ≡ encode (settle (decode (now (s .entry)))) ⌝ }
+    requires { ⌜ count ≤ length (now keys) ⌝ }
+    requires { ⌜ Lists (good-key 4 (decode (now s) .trust) domain) (now keys) count ⌝ }
+    ensures { λ _. ⌜ now (s .exit) ≡ encode (settle-in domain (decode (now (s .entry)))) ⌝ }
 {
     let slots = image::executable_slots(s);
     let mut i: usize = 0;
     while i < slots {
-        let domain = settled_domain(s, table, image::executable(s, i));
-        image::set_domain(s, i, domain);
+        let settled = settled_domain(domain, keys, count, image::executable(s, i));
+        image::set_domain(s, i, settled);
         i += 1;
     }
 }
 
-// "After every accepted event": the table of slots is found once for all executables.
+// The executables of one domain: its good keys are found once for all of them.
+fn settle_domain(s: &mut [u8], domain: u8)
+    requires { ⌜ Framed (now s) ⌝ }
+    ensures { λ _. ⌜ now (s .exit) ≡ encode (settle-in domain (decode (now (s .entry)))) ⌝ }
+{
+    let mut keys = [0u32; 64];
+    let count = chain::good_keys(s, domain, &mut keys);
+    settle_by(s, domain, &keys, count);
+}
+
+// "After every accepted event": each domain for itself, since a chain never leaves its domain.
 pub fn settle(s: &mut [u8])
     requires { ⌜ Framed (now s) ⌝ }
+    requires { ⌜ Domains-known (decode (now s)) ⌝ }
     ensures { λ _. ⌜ now (s .exit) ≡ encode (settle (decode (now (s .entry)))) ⌝ }
 {
-    let table = chain::table(s);
-    settle_by(s, &table);
+    settle_domain(s, 1);
+    settle_domain(s, 2);
+    settle_domain(s, 3);
 }

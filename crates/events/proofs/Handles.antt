@@ -1,9 +1,9 @@
 -- From what a handler decided, wrote and settled to what it promises. Assumes nothing.
 use Prim.Native.Nat.{ℕ, _<_}
-use mathlib.Core.Bool.{cond}
-use mathlib.Core.List.{List}
+use mathlib.Core.Bool.{Bool, true, false, cond}
+use mathlib.Core.List.{List, List·Memᴰ}
 use mathlib.Core.Logic.{_≢_}
-use mathlib.Core.Path.{_≡_, sym, ap, _∙_, subst}
+use mathlib.Core.Path.{_≡_, refl, sym, ap, _∙_, subst}
 use native.Mathlib.Omega.{arith}
 use borrow.Author.Tests.{eq-eqb, ne-eqb}
 use lib.Dec.{T, eqb}
@@ -18,7 +18,7 @@ use Rattle.rules.specs.Words.{fill}
 use Rattle.rules.specs.ImageRules.{free-certificate}
 use Rattle.rules.specs.Forms.{new-certificate, with-kind, forms, no-form, id-form, action-form}
 use Rattle.rules.specs.Codes.{code-of}
-use Rattle.rules.specs.Effects.{effect, install-certificate, settle, changed}
+use Rattle.rules.specs.Effects.{effect, power-up, card-out, card-in, card-rule, install-certificate, settle, changed}
 use Rattle.rules.specs.Step.{refused, done}
 use Rattle.rules.proofs.Tests.{si}
 use Rattle.rules.proofs.Accepted.{Accepted}
@@ -26,6 +26,8 @@ use Rattle.rules.proofs.Accepts.{accepted-out}
 use Rattle.demands.proofs.Told.{told as told-of-code, id-formed, action-formed}
 use Rattle.demands.proofs.Shape.{shape-effect, sized-shape}
 use Rattle.opening.specs.Opened.{Accepted-image}
+use Rattle.opening.proofs.Domains.{executable-domain}
+use Rattle.effects.specs.Sweeps.{Domains-known}
 use Rattle.events.specs.Stepped.{Handled}
 use Rattle.events.proofs.Still.{request-unchanged}
 
@@ -58,8 +60,22 @@ module _ (l : List ℕ) (e : Event) where
   pub handled-still : (r : ℕ) → r ≡ code-of (decode l) e → r ≡ 0 → changed e (decode l) ≡ effect e (decode l) → (x : Answer) → x ≡ done e (changed e (decode l)) → (l₁ : List ℕ) → l₁ ≡ encode (effect e (decode l)) → Handled l e x l₁
   handled-still r c h s x q l₁ i = handled-done r c h x q l₁ (i ∙ ap encode (sym s))
 
-  pub framed-effect : Accepted-image l → (l₁ : List ℕ) → l₁ ≡ encode (effect e (decode l)) → Framed l₁
-  framed-effect a l₁ i = subst Framed (sym i) (framed-encode (effect e (decode l)) (sized-shape (shape-effect e (decode l)) (a .framed .sized)))
+  -- what settling asks of the image of an effect that leaves the executables alone
+  pub settleable : Accepted-image l → (l₁ : List ℕ) → l₁ ≡ encode (effect e (decode l)) → effect e (decode l) .executables ≡ decode l .executables → Framed l₁ × Domains-known (decode l₁)
+  settleable a l₁ i s =
+      let q = effect e (decode l) in
+      let x : q .executables ≡ decode l₁ .executables = ap (λ p. p .executables) (sym (ap decode i ∙ decode-encode q)) in (
+        subst Framed (sym i) (framed-encode q (sized-shape (shape-effect e (decode l)) (a .framed .sized))),
+        record { known = λ y m. executable-domain y (accepted-out l (a .accepted) .1 .executables y (subst (List·Memᴰ y) (sym x ∙ s) m)) },
+      )
+
+pub power-up-programs : (e : Event) (p : Phone) → effect (with-kind 4 e) p .executables ≡ p .executables
+unfolding effect power-up card-out card-in card-rule
+power-up-programs e p = go (eqb (e .second) 0)
+  where
+    go : (b : Bool) → cond b (card-out e p) (card-in e p) .executables ≡ p .executables
+    go true = refl
+    go false = refl
 
 -- ---- what the writers ask for, and what they have made
 

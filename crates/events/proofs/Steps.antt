@@ -29,8 +29,16 @@ use Rattle.events.proofs.Handles.{handled-refused}
 -- ---- the kind and the actor
 
 -- handled as one of its own kind
-pub of-its-kind : (l : List ℕ) (e : Event) (k : ℕ) (r : Answer) (l′ : List ℕ) → e .kind ≡ k → Handled l (with-kind k e) r l′ → Handled l e r l′
+of-its-kind : (l : List ℕ) (e : Event) (k : ℕ) (r : Answer) (l′ : List ℕ) → e .kind ≡ k → Handled l (with-kind k e) r l′ → Handled l e r l′
 of-its-kind l e k r l′ h = subst (λ n. Handled l (with-kind n e) r l′) (sym h)
+
+-- an event that is read after its actor and its kind
+module _ (v : List ℕ) {e : Event} (q : e ≡ event-read v 0) where
+  pub low-actor : {n : ℕ} → n ≡ event-read v 0 .actor → n ≤ 4 → e .actor < 5
+  low-actor a h = let b = ap (λ e. e .actor) q in omega arith
+
+  pub read-of-kind : (l : List ℕ) (k : ℕ) {n : ℕ} (r : Answer) (l′ : List ℕ) → n ≡ event-read v 0 .kind → n ≡ k → Handled l (with-kind k e) r l′ → Handled l (event-read v 0) r l′
+  read-of-kind l k r l′ i h d = subst (λ e. Handled l e r l′) q (of-its-kind l e k r l′ (ap (λ e. e .kind) q ∙ sym i ∙ h) d)
 
 -- no kind but 1 to 15 has a form
 no-kind : (k : ℕ) → k ≢ 1 → k ≢ 2 → k ≢ 3 → k ≢ 4 → k ≢ 5 → k ≢ 6 → k ≢ 7 → k ≢ 8 → k ≢ 9 → k ≢ 10 → k ≢ 11 → k ≢ 12 → k ≢ 13 → k ≢ 14 → k ≢ 15 → getD forms k no-form ≡ no-form
@@ -60,12 +68,13 @@ no-form-code p e h = let m : malformed p e ≡ true = ap (λ x. not (leb (e .act
     never true = refl
     never false = refl
 
-pub no-such-kind : (l : List ℕ) (e : Event) → e .kind ≢ 1 → e .kind ≢ 2 → e .kind ≢ 3 → e .kind ≢ 4 → e .kind ≢ 5 → e .kind ≢ 6 → e .kind ≢ 7 → e .kind ≢ 8 → e .kind ≢ 9 → e .kind ≢ 10 → e .kind ≢ 11 → e .kind ≢ 12 → e .kind ≢ 13 → e .kind ≢ 14 → e .kind ≢ 15 → (x : Answer) → x ≡ refused 2 → Handled l e x l
-no-such-kind l e n1 n2 n3 n4 n5 n6 n7 n8 n9 n10 n11 n12 n13 n14 n15 x q =
-    handled-refused l e 2 (no-form-code (decode l) e (no-kind (e .kind) n1 n2 n3 n4 n5 n6 n7 n8 n9 n10 n11 n12 n13 n14 n15)) (λ z. omega arith) x q
+-- n is the kind that was read
+pub no-such-kind : (l : List ℕ) (e : Event) (n : ℕ) → n ≡ e .kind → n ≢ 1 → n ≢ 2 → n ≢ 3 → n ≢ 4 → n ≢ 5 → n ≢ 6 → n ≢ 7 → n ≢ 8 → n ≢ 9 → n ≢ 10 → n ≢ 11 → n ≢ 12 → n ≢ 13 → n ≢ 14 → n ≢ 15 → (x : Answer) → x ≡ refused 2 → Handled l e x l
+no-such-kind l e n i n1 n2 n3 n4 n5 n6 n7 n8 n9 n10 n11 n12 n13 n14 n15 x q =
+    handled-refused l e 2 (no-form-code (decode l) e (ap (λ n. getD forms n no-form) (sym i) ∙ no-kind n n1 n2 n3 n4 n5 n6 n7 n8 n9 n10 n11 n12 n13 n14 n15)) (λ z. omega arith) x q
 
-pub kind-zero : (l : List ℕ) (e : Event) → e .kind ≡ 0 → (x : Answer) → x ≡ refused 2 → Handled l e x l
-kind-zero l e k x q = handled-refused l e 2 (no-form-code (decode l) e (ap (λ n. getD forms n no-form) k)) (λ z. omega arith) x q
+pub kind-zero : (l : List ℕ) (e : Event) (n : ℕ) → n ≡ e .kind → n ≡ 0 → (x : Answer) → x ≡ refused 2 → Handled l e x l
+kind-zero l e n i k x q = handled-refused l e 2 (no-form-code (decode l) e (ap (λ n. getD forms n no-form) (sym i ∙ k))) (λ z. omega arith) x q
 
 pub no-such-actor : (l : List ℕ) (e : Event) → 4 < e .actor → (x : Answer) → x ≡ refused 2 → Handled l e x l
 unfolding code-of first malformed
@@ -113,11 +122,11 @@ module _ (l v : List ℕ) where
         record { stepped = refused-stepped 2 (rw (a .accepted, ne-eqb (length v) event-size h)) (λ z. omega arith) x q; accepted = a }
 
     -- an event that was handled
-    pub handled-stepped : length v ≡ event-size → (e : Event) → e ≡ event-read v 0 → (r : Answer) (l′ : List ℕ) → Bytes l′ → Handled l e r l′ → Stepped-on l v r l′
-    handled-stepped n e i r l′ b h =
+    pub handled-stepped : length v ≡ event-size → (r : Answer) (l′ : List ℕ) → Bytes l′ → Handled l (event-read v 0) r l′ → Stepped-on l v r l′
+    handled-stepped n r l′ b h =
         let s = whole-stepped (a .accepted) n in
-        let k : l′ ≡ step l v .image = h .image ∙ ap (left l) i ∙ sym (ap (λ o. o .image) s) in
+        let k : l′ ≡ step l v .image = h .image ∙ sym (ap (λ o. o .image) s) in
         record {
-          stepped = record { answer = h .answer ∙ ap (told (decode l)) i ∙ sym (ap (λ o. o .answer) s); image = k };
+          stepped = record { answer = h .answer ∙ sym (ap (λ o. o .answer) s); image = k };
           accepted = accepted-image l′ b (subst (λ m. accepted m ≡ true) (sym k) (accepted-step l v (a .accepted)));
         }

@@ -3,11 +3,11 @@ use Prim.Native.Nat.{ℕ}
 use mathlib.Core.Bool.{Bool, true, false, not, _&&_, _||_}
 use mathlib.Core.List.{List, map, List·Memᴰ, Memᴰ·map, Memᴰ·of-map}
 use mathlib.Core.Logic.{_≢_, _⊎_, inl, inr}
-use mathlib.Core.Path.{_≡_, refl, sym, subst, _∙_}
+use mathlib.Core.Path.{_≡_, refl, sym, ap, subst, _∙_}
 use native.Mathlib.Omega.{arith}
 use lib.Dec.{T, eqb}
 use Rattle.bits.specs.Bits.{set-bit, clear-bit}
-use Rattle.records.specs.Phone.{Phone, no-executable, permitted, marked, enabling, with-clock, with-card}
+use Rattle.records.specs.Phone.{Phone, no-certificate, no-executable, permitted, marked, enabling, with-clock, with-card, with-certificates}
 use Rattle.records.specs.declared.Certificate.{Certificate}
 use Rattle.records.specs.declared.Executable.{Executable}
 use Rattle.records.specs.declared.Event.{Event}
@@ -17,16 +17,17 @@ use Rattle.rules.specs.ImageRules.{third-party-root, valid-in, has-valid-operat
 use Rattle.rules.specs.Forms.{with-kind, new-certificate}
 use Rattle.rules.specs.Codes.{is-executable, certificate-named}
 use Rattle.rules.specs.Effects.{effect, changed, settle, retired, phone-operator-root, card-rule, card-in, tick, install-certificate, on-a-card, after-marking, mark-valid, enabled-by, message, install-executable, delete-executable, give, withdraw, request}
-use Rattle.rules.proofs.Accepted.{Accepted}
+use Rattle.rules.proofs.Accepted.{Occupied, Accepted}
 use Rattle.rules.proofs.Tests.{tests, or-cases, is, si, by-test}
 use Rattle.rules.proofs.Lists.{fill-out, none-out}
 use Rattle.rules.proofs.Changes.{at-cases}
 use Rattle.demands.proofs.Order.{Fewer, fewer-chains}
 use Rattle.demands.proofs.Change.{Narrows, narrows-marked, narrows-refl, fewer-by, more-map}
 use Rattle.demands.proofs.Give.{more-filled, marking-widens}
-use Rattle.demands.proofs.Settle.{settle-still, request-changed}
+use Rattle.demands.proofs.Settle.{map-id, settle-still, request-changed}
 use Rattle.demands.proofs.Verified.{verify-effect, verify-changed}
-use Rattle.events.specs.Quiet.{runs-out, disables}
+use Rattle.effects.specs.Sweeps.{disables}
+use Rattle.events.specs.Quiet.{runs-out}
 
 module _ (p : Phone) (ok : Accepted p) where
   -- it chains to the domain that it has, if it has one
@@ -75,12 +76,28 @@ module _ (p : Phone) (ok : Accepted p) where
   later-fewer t h =
       fewer-by (p .trust) (with-clock t p .trust) (λ c m. record { certificate = c; mem = m; narrows = later-narrows t c (none-out (runs-out (p .trust .seen .clock) t) (p .trust .certificates) h c m) })
 
-  -- a card comes where none is and no operator root on the phone is valid: no mark can fall
-  module _ (n : ℕ) (none : p .trust .seen .card ≡ 0) (unmarked : T (not (has-valid-operator (p .trust) 0))) where
-    come-root : (c : Certificate) → List·Memᴰ c (p .trust .certificates) → T (phone-operator-root c) → T (trusted-root (p .trust .seen) c) → ⊥
-    unfolding has-valid-operator valid-in trusted-root
-    come-root c m o r = none-out (λ x. valid-in 1 (p .trust .seen .clock) x && eqb (x .place) 0) (p .trust .certificates) unmarked c m (search tests)
+  -- no operator root on the phone is valid: the card rule finds no mark to take
+  module _ (n : ℕ) (unmarked : T (not (has-valid-operator (p .trust) 0))) where
+    no-mark : (c : Certificate) → List·Memᴰ c (p .trust .certificates) → T (phone-operator-root c) → c .mark ≡ 0
+    unfolding has-valid-operator valid-in valid-root
+    no-mark c m o = go (ok .trust .held .slots c m)
+      where
+        none : c .mark ≡ 1 → ⊥
+        none e = let a : T (eqb (c .mark) 1) = si (c .mark) 1 e in none-out (λ x. valid-in 1 (p .trust .seen .clock) x && eqb (x .place) 0) (p .trust .certificates) unmarked c m (search tests)
 
+        go : (c ≡ no-certificate) ⊎ Occupied c → c .mark ≡ 0
+        go (inl e) = ap (λ x. x .mark) e
+        go (inr h) = let f = h .mark in omega (arith, f, none)
+
+    rule-idle : card-rule (with-card n p) ≡ with-card n p
+    unfolding card-rule retired
+    rule-idle =
+        ap (λ l. with-certificates l (with-card n p))
+        (map-id (at (retired (with-card n p)) (marked 0)) (p .trust .certificates)
+        (λ c m. at-cases (λ hi lo. hi ≡ lo) (retired (with-card n p)) (marked 0) c (λ t. ap (λ k. marked k c) (sym (no-mark c m (search tests)))) (λ f. refl)))
+
+  -- a card comes where none is: nothing goes
+  module _ (n : ℕ) (none : p .trust .seen .card ≡ 0) where
     come-present : (c : Certificate) → T (present (p .trust .seen) c) → T (present (with-card n p .trust .seen) c)
     unfolding present
     come-present c h =
@@ -100,21 +117,8 @@ module _ (p : Phone) (ok : Accepted p) where
           issued = λ r. (let a : T (present (p .trust .seen) c) = search tests in let b = come-present c a in search tests, narrows-refl (p .trust .seen) c .issued r .1);
         }
 
-    come-narrows : (c : Certificate) → List·Memᴰ c (p .trust .certificates) → Narrows (p .trust .seen) (with-card n p .trust .seen) c (at (retired (with-card n p)) (marked 0) c)
-    unfolding retired link
-    come-narrows c m =
-        at-cases (λ hi lo. Narrows (p .trust .seen) (with-card n p .trust .seen) lo hi) (retired (with-card n p)) (marked 0) c
-        (λ t. record { root = λ r. absurd (come-root c m (search tests) r); issued = λ r. absurd (apart (search tests) (search tests)) })
-        (λ f. come-kept c)
-      where
-        apart : T (eqb (c .kind) 0) → T (eqb (c .kind) 1) → ⊥
-        apart a b = let x = is (c .kind) 0 a in let y = is (c .kind) 1 b in absurd (omega arith)
-
-    come-fewer : Fewer (p .trust) (card-rule (with-card n p) .trust)
-    unfolding card-rule
-    come-fewer =
-        fewer-by (p .trust) (card-rule (with-card n p) .trust)
-        (λ c m. record { certificate = at (retired (with-card n p)) (marked 0) c; mem = Memᴰ·map (at (retired (with-card n p)) (marked 0)) m; narrows = come-narrows c m })
+    come-fewer : Fewer (p .trust) (with-card n p .trust)
+    come-fewer = fewer-by (p .trust) (with-card n p .trust) (λ c m. record { certificate = c; mem = m; narrows = come-kept c })
 
   -- a root that stays enabled, by what a message makes of it
   message-narrows : (e : Event) (c : Certificate) → (T (disables e c) → ⊥) → Narrows (p .trust .seen) (p .trust .seen) c (at third-party-root (λ c. enabling (enabled-by e c) c) c)
@@ -140,9 +144,13 @@ module _ (p : Phone) (ok : Accepted p) where
     unfolding changed effect message enabled-by
     message-still h = widened-still (message e p) (message-fewer e (subst (λ b. T (not b)) (sym h) tt)) refl
 
+    pub card-idle : T (not (has-valid-operator (p .trust) 0)) → effect (with-kind 2 e) p ≡ with-card (e .second) p
+    unfolding effect card-in
+    card-idle h = rule-idle (e .second) h
+
     pub card-still : p .trust .seen .card ≡ 0 → T (not (has-valid-operator (p .trust) 0)) → changed (with-kind 2 e) p ≡ effect (with-kind 2 e) p
-    unfolding changed effect card-in card-rule
-    card-still z h = widened-still (card-in e p) (come-fewer (e .second) z h) refl
+    unfolding changed
+    card-still z h = ap settle (card-idle h) ∙ widened-still (with-card (e .second) p) (come-fewer (e .second) z) refl ∙ sym (card-idle h)
 
     pub tick-still : any (runs-out (p .trust .seen .clock) (e .key)) (p .trust .certificates) ≡ false → changed (with-kind 1 e) p ≡ effect (with-kind 1 e) p
     unfolding changed effect tick

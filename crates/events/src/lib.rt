@@ -1,17 +1,19 @@
 // One step of the monitor: an event on an image, its answer and the image after it.
-use records::Certificate;
 use records::Event;
 use records::image;
 use rules::Answer;
 ghost use mathlib.Core.Path.{_≡_};
-ghost use Prim.Native.Nat.{_≤_, _<_};
+ghost use Prim.Native.Nat.{_<_};
+ghost use lib.ListN.{length};
+ghost use Rattle.records.specs.Sizes.{event-size};
+ghost use Rattle.records.specs.Layout.{event-read};
 ghost use Rattle.records.specs.Phone.{decode};
 ghost use Rattle.records.specs.Frame.{Framed};
 ghost use Rattle.rules.specs.Forms.{with-kind};
 ghost use Rattle.rules.specs.Step.{refused};
 ghost use Rattle.opening.specs.Opened.{Accepted-image};
 ghost use Rattle.rules.specs.Words.{any};
-ghost use Rattle.events.specs.Quiet.{runs-out, disables};
+ghost use Rattle.events.specs.Quiet.{runs-out};
 ghost use Rattle.events.specs.Stepped.{Handled, Stepped, Stepped-on};
 
 // "Every code other than 0 gives domain 0 and links 0"; so does code 0 but for verify and request.
@@ -74,10 +76,11 @@ fn card_in(s: &mut [u8], e: Event) -> Answer
     }
     // With no card to go and no mark to fall, more records are present and all others stay as they are.
     let safe = (image::card_present(s) == 0) & !lookup::has_valid_operator(s, 0);
-    effects::card_in(s, e);
     if safe {
+        effects::card_only(s, e);
         return refused(0);
     }
+    effects::card_in(s, e);
     effects::settle(s);
     refused(0)
 }
@@ -170,34 +173,6 @@ fn mark_invalid(s: &mut [u8], e: Event) -> Answer
     refused(0)
 }
 
-// A third party root that is enabled, and no longer after the message. The list is looked through for such a root alone.
-fn is_disabled(e: Event, c: Certificate) -> bool
-    requires { ⌜ e .fourth ≤ 8 ⌝ }
-    ensures { λ r. ⌜ r ≡ disables e c ⌝ }
-{
-    if !((c.kind == 0) & (c.domain == 3) & (c.enabled == 1)) {
-        return false;
-    }
-    effects::enabled_by(e, c) != 1
-}
-
-// Whether a message disables a root that is enabled: only then can it break a chain.
-fn disables(s: &[u8], e: Event) -> bool
-    requires { ⌜ Framed (now s) ⌝ }
-    requires { ⌜ e .fourth ≤ 8 ⌝ }
-    ensures { λ r. ⌜ r ≡ any (disables e) (decode (now (s .entry)) .trust .certificates) ⌝ }
-{
-    let slots = image::certificate_slots(s);
-    let mut i: usize = 0;
-    while i < slots {
-        if is_disabled(e, image::certificate(s, i)) {
-            return true;
-        }
-        i += 1;
-    }
-    false
-}
-
 fn message(s: &mut [u8], e: Event) -> Answer
     requires { ⌜ Accepted-image (now s) ⌝ }
     requires { ⌜ e .actor < 5 ⌝ }
@@ -207,9 +182,7 @@ fn message(s: &mut [u8], e: Event) -> Answer
     if code != 0 {
         return refused(code);
     }
-    let broken = disables(s, e);
-    effects::message(s, e);
-    if !broken {
+    if !effects::message(s, e) {
         return refused(0);
     }
     effects::settle(s);
@@ -310,31 +283,32 @@ fn request(s: &[u8], e: Event) -> Answer
 
 // ---- one step
 
-// Each kind to its handler.
-fn handle(s: &mut [u8], e: Event) -> Answer
+// Each kind to its handler. The event is read in each arm, so that what a kind has no use for is never put together.
+fn handle(s: &mut [u8], v: &[u8]) -> Answer
     requires { ⌜ Accepted-image (now s) ⌝ }
-    ensures { λ r. ⌜ Handled (now (s .entry)) e r (now (s .exit)) ⌝ }
+    requires { ⌜ length (now v) ≡ event-size ⌝ }
+    ensures { λ r. ⌜ Handled (now (s .entry)) (event-read (now (v .entry)) 0) r (now (s .exit)) ⌝ }
 {
-    if 4 < e.actor {
+    if 4 < Event::actor(v, 0) {
         return refused(2);
     }
-    let kind = e.kind;
+    let kind = Event::kind(v, 0);
     match kind {
-        1 => clock(s, e),
-        2 => card_in(s, e),
-        3 => card_out(s, e),
-        4 => power_up(s, e),
-        5 => install_certificate(s, e),
-        6 => delete_certificate(s, e),
-        7 => mark_valid(s, e),
-        8 => mark_invalid(s, e),
-        9 => message(s, e),
-        10 => install_executable(s, e),
-        11 => delete_executable(s, e),
-        12 => verify(s, e),
-        13 => give(s, e),
-        14 => withdraw(s, e),
-        15 => request(s, e),
+        1 => clock(s, Event::read(v, 0)),
+        2 => card_in(s, Event::read(v, 0)),
+        3 => card_out(s, Event::read(v, 0)),
+        4 => power_up(s, Event::read(v, 0)),
+        5 => install_certificate(s, Event::read(v, 0)),
+        6 => delete_certificate(s, Event::read(v, 0)),
+        7 => mark_valid(s, Event::read(v, 0)),
+        8 => mark_invalid(s, Event::read(v, 0)),
+        9 => message(s, Event::read(v, 0)),
+        10 => install_executable(s, Event::read(v, 0)),
+        11 => delete_executable(s, Event::read(v, 0)),
+        12 => verify(s, Event::read(v, 0)),
+        13 => give(s, Event::read(v, 0)),
+        14 => withdraw(s, Event::read(v, 0)),
+        15 => request(s, Event::read(v, 0)),
         0 | 16..=255 => refused(2),
     }
 }
@@ -347,7 +321,7 @@ pub fn step_on(s: &mut [u8], v: &[u8]) -> Answer
     if v.len() != Event::SIZE {
         return refused(2);
     }
-    handle(s, Event::read(v, 0))
+    handle(s, v)
 }
 
 // Any image and any event, of any length.

@@ -1,4 +1,5 @@
 pub mod Again
 pub mod Parts
+pub mod Domains
 pub mod Promise
 pub mod Answers

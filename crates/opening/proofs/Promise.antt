@@ -15,6 +15,7 @@ use Rattle.rules.specs.ImageRules.{accepted}
 use Rattle.rules.proofs.Accepted.{Occupied, Stored}
 use Rattle.rules.proofs.Accepts.{accepted-out}
 use Rattle.opening.specs.Opened.{Accepted-image}
+use Rattle.opening.proofs.Domains.{executable-domain}
 
 -- what holds of every element and of what stands past the end holds at every place
 at-each : {A : Type 0} (P : A → Type 0) (d : A) (l : List A) → P d → ((x : A) → List·Memᴰ x l → P x) → (i : ℕ) → P (getD l i d)
@@ -30,10 +31,6 @@ key-domain c (inr o) nz = o .domain
 certificate-domain : (c : Certificate) → (c ≡ no-certificate) ⊎ Occupied c → c .domain ≤ 3
 certificate-domain c (inl z) = let e : c .domain ≡ 0 = ap (λ x. x .domain) z in omega arith
 certificate-domain c (inr o) = o .domain .1
-
-executable-domain : {n : ℕ} (x : Executable) → (x ≡ no-executable) ⊎ Stored n x → x .domain ≤ 3
-executable-domain x (inl z) = let e : x .domain ≡ 0 = ap (λ y. y .domain) z in omega arith
-executable-domain x (inr o) = o .domain
 
 pub accepted-image : (l : List ℕ) → Bytes l → accepted l ≡ true → Accepted-image l
 accepted-image l b h =

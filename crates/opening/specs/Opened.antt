@@ -6,7 +6,7 @@ use mathlib.Core.Path.{_≡_}
 use Rattle.records.specs.Phone.{decode, certificate-at, executable-at}
 use Rattle.records.specs.Frame.{Framed}
 use Rattle.rules.specs.ImageRules.{accepted, «open»}
-use Rattle.chain.specs.Table.{Keyed}
+use Rattle.chain.specs.Keys.{Keyed}
 
 -- an accepted image, with what code asks of one: its frame, one domain for a key, and domains that a table of four has room for
 pub record Accepted-image (l : List ℕ) : Type 0 where

@@ -8,14 +8,13 @@ ghost use mathlib.Core.Bool.{cond, not, _&&_, _||_};
 ghost use mathlib.Core.List.{map};
 ghost use mathlib.Core.Path.{_≡_};
 ghost use Prim.Native.Nat.{_+_, _≤_, _<_};
-ghost use lib.Dec.{eqb};
+ghost use lib.Dec.{T, eqb};
 ghost use lib.ListN.{length, drop};
 ghost use Rattle.records.specs.Phone.{decode, certificate-at, card-at, executable-at};
 ghost use Rattle.records.specs.Frame.{Framed};
 ghost use Rattle.rules.specs.Words.{any, all, all-pairs, distinct};
-ghost use Rattle.rules.specs.Chains.{chains-to};
 ghost use Rattle.rules.specs.ImageRules.{free-certificate, free-executable, operator-root, zero-certificate, certificate-ranges, root-fits, issued-fits, certificate-fits, known-place, key-of-one-domain, card-owns, one-in-place, yields-to-card, one-manufacturer, row-fits, zero-executable, executable-fits, i2, i3, i4, i5, i6, i7, i8};
-ghost use Rattle.chain.specs.Table.{Counted};
+ghost use Rattle.chain.specs.Keys.{Lists, good-key, chained-in};
 ghost use Rattle.opening.specs.Opened.{Opened};
 
 // ---- I2 Certificate
@@ -531,26 +530,16 @@ fn i7(s: &[u8]) -> bool
 
 // ---- I8
 
-fn is_chained(s: &[u8], table: &[u8; 64], x: Executable) -> bool
+fn all_chained(s: &[u8], domain: u8, keys: &[u32], count: usize) -> bool
     requires { ⌜ Framed (now s) ⌝ }
-    requires { ⌜ Counted 4 (decode (now s) .trust) (now table) ⌝ }
-    ensures { λ r. ⌜ r ≡ (eqb (x .domain) 0 || chains-to (decode (now (s .entry)) .trust) (x .signing) (x .domain)) ⌝ }
-{
-    if x.domain == 0 {
-        return true;
-    }
-    chain::chains_to(s, table, x.signing, x.domain)
-}
-
-fn all_chained(s: &[u8], table: &[u8; 64]) -> bool
-    requires { ⌜ Framed (now s) ⌝ }
-    requires { ⌜ Counted 4 (decode (now s) .trust) (now table) ⌝ }
-    ensures { λ r. ⌜ r ≡ i8 (decode (now (s .entry))) ⌝ }
+    requires { ⌜ count ≤ length (now keys) ⌝ }
+    requires { ⌜ Lists (good-key 4 (decode (now s) .trust) domain) (now keys) count ⌝ }
+    ensures { λ r. ⌜ r ≡ all (chained-in domain (decode (now (s .entry)) .trust)) (decode (now (s .entry)) .executables) ⌝ }
 {
     let slots = image::executable_slots(s);
     let mut i: usize = 0;
     while i < slots {
-        if !is_chained(s, table, image::executable(s, i)) {
+        if !chain::is_chained(domain, keys, count, image::executable(s, i)) {
             return false;
         }
         i += 1;
@@ -558,12 +547,29 @@ fn all_chained(s: &[u8], table: &[u8; 64]) -> bool
     true
 }
 
+// Whether every executable of a domain chains to it.
+fn domain_chained(s: &[u8], domain: u8) -> bool
+    requires { ⌜ Framed (now s) ⌝ }
+    ensures { λ r. ⌜ r ≡ all (chained-in domain (decode (now (s .entry)) .trust)) (decode (now (s .entry)) .executables) ⌝ }
+{
+    let mut keys = [0u32; 64];
+    let count = chain::good_keys(s, domain, &mut keys);
+    all_chained(s, domain, &keys, count)
+}
+
+// By domains, of which I7 allows 1 to 3.
 fn i8(s: &[u8]) -> bool
     requires { ⌜ Framed (now s) ⌝ }
+    requires { ⌜ T (i7 (decode (now s))) ⌝ }
     ensures { λ r. ⌜ r ≡ i8 (decode (now (s .entry))) ⌝ }
 {
-    let table = chain::table(s);
-    all_chained(s, &table)
+    if !domain_chained(s, 1) {
+        return false;
+    }
+    if !domain_chained(s, 2) {
+        return false;
+    }
+    domain_chained(s, 3)
 }
 
 // ---- all of them

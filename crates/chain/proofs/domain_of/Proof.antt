@@ -4,7 +4,7 @@ use Prim.Native.Nat.{_≤_, _-_}
 use mathlib.Core.Path.{_≡_, refl}
 use lib.ListN.{length}
 use Rattle.records.specs.Phone.{decode}
-use Rattle.chain.specs.Table.{holder}
+use Rattle.chain.specs.Keys.{holder}
 use Rattle.chain.proofs.Holders.{holder-from, holder-start, holder-here, holder-next, holder-none}
 use Rattle.chain.proofs.domain_of.Statement.{statement}
 use Rattle.chain.proofs.domain_of.Tie as tie

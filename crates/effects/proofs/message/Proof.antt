@@ -1,37 +1,37 @@
 use Prim.Native.Nat.{_-_}
-use mathlib.Core.Path.{ap, _∙_}
+use mathlib.Core.Bool.{_||_}
+use mathlib.Core.Path.{_≡_, refl, ap, _∙_}
 use native.Mathlib.Omega.{arith}
+use lib.ListN.{drop}
+use borrow.Author.Tests.{not-true, not-false}
 use borrow.Author.Needs.{needs}
-use Rattle.records.specs.Phone.{encode, with-mode, enabling}
-use Rattle.rules.specs.Words.{at}
+use Rattle.records.specs.Phone.{decode, encode, no-certificate, with-mode, enabling}
+use Rattle.rules.specs.Words.{any, at}
 use Rattle.rules.specs.ImageRules.{third-party-root}
 use Rattle.rules.specs.Effects.{enabled-by, message}
+use Rattle.effects.specs.Sweeps.{disables}
 use Rattle.effects.proofs.Parts.{certificates}
-use Rattle.effects.proofs.Sweeps.{Sweeping, sweep-starts, sweep-goes-on, sweep-said}
-use Rattle.effects.proofs.Fields.{enabled-written}
+use Rattle.effects.proofs.Sweeps.{Sweeping, sweep-starts, sweep-goes-on, sweep-here, sweep-skips, sweep-said, gathers, gathers-none, gathered}
+use Rattle.effects.proofs.Fields.{enabled-written, enabled-skipped, disables-told, disables-none}
 use Rattle.effects.proofs.message.Statement.{statement}
 use Rattle.effects.proofs.message.Tie as tie
 
 abbrev Inv-loop : tie.InvT-loop
-Inv-loop s₀ e slots i₀ s i = Sweeping certificates (at third-party-root (λ c. enabling (enabled-by e c) c)) s₀ s slots i
+Inv-loop s₀ e slots broken₀ i₀ s broken i =
+    Sweeping certificates (at third-party-root (λ c. enabling (enabled-by e c) c)) s₀ s slots i
+    × ((broken || any (disables e) (drop i (decode s₀ .trust .certificates))) ≡ any (disables e) (decode s₀ .trust .certificates))
 
 abbrev μ-loop : tie.MeasureT-loop
-μ-loop s₀ e slots i₀ s i = slots - i
+μ-loop s₀ e slots broken₀ i₀ s broken i = slots - i
 
 certificate-slots-requires : tie.Need-certificate-slots-requires Inv-loop μ-loop
 certificate-slots-requires c κs = search needs
 
 loop-holds : tie.Need-loop-holds Inv-loop μ-loop
-loop-holds c = sweep-starts certificates _ (c .before .before .before .pre .0) (c .certificate-slots .ensures .0)
+loop-holds c = (sweep-starts certificates _ (c .before .before .before .pre .0) (c .certificate-slots .ensures .0), refl)
 
 certificate-requires : tie.Need-certificate-requires Inv-loop μ-loop
 certificate-requires c κs = search needs
-
-enabled-after-requires : tie.Need-enabled-after-requires Inv-loop μ-loop
-enabled-after-requires c κs = search needs
-
-set-enabled-requires : tie.Need-set-enabled-requires Inv-loop μ-loop
-set-enabled-requires c κs = search needs
 
 add-i : tie.Need-add-i Inv-loop μ-loop
 add-i c = search needs
@@ -41,10 +41,36 @@ loop-less c = search needs
 
 loop-again : tie.Need-loop-again Inv-loop μ-loop
 loop-again c =
-    let z = c .before .before .before .before .before .before .before .before .before .before .before .before in
-    sweep-goes-on certificates _ (c .before .before .before .before .before .before .before .before .loop .inv) (omega arith) (search needs)
-    (enabled-written (z .args .e) (c .before .before .before .before .enabled-after .ensures) (c .before .before .before .before .before .certificate .ensures))
-    (c .before .before .set-enabled .ensures)
+    let e = c .before .before .before .before .before .before .before .before .before .before .args .e in
+    let v = c .before .before .before .before .before .before .loop in
+    let x = c .before .before .before .certificate .ensures in
+    let n = not-true _ (c .if1 .taken) in (
+      sweep-skips certificates _ (v .inv .0) (omega arith) (enabled-skipped e x n),
+      gathers-none (disables e) no-certificate _ (v .i) (v .broken) (v .inv .1) (omega arith) (disables-none e (x ∙ sweep-here certificates _ (v .inv .0)) n),
+    )
+
+enabled-by-requires : tie.Need-enabled-by-requires Inv-loop μ-loop
+enabled-by-requires c κs = search needs
+
+set-enabled-requires : tie.Need-set-enabled-requires Inv-loop μ-loop
+set-enabled-requires c κs = (c .before .before .before .before .before .before .before .before .loop .inv .0 .framed, search needs)
+
+add-i-2 : tie.Need-add-i-2 Inv-loop μ-loop
+add-i-2 c = search needs
+
+loop-less-2 : tie.Need-loop-less-2 Inv-loop μ-loop
+loop-less-2 c = search needs
+
+loop-again-2 : tie.Need-loop-again-2 Inv-loop μ-loop
+loop-again-2 c =
+    let e = c .before .before .before .before .before .before .before .before .before .before .before .before .before .before .before .before .args .e in
+    let v = c .before .before .before .before .before .before .before .before .before .before .before .before .loop in
+    let x = c .before .before .before .before .before .before .before .before .before .certificate .ensures in
+    let m = c .before .before .before .before .before .enabled-by .ensures in
+    let y = not-false _ (c .before .before .before .before .before .before .if1 .left) in (
+      sweep-goes-on certificates _ (v .inv .0) (omega arith) (search needs) (enabled-written e x m y) (c .before .before .before .set-enabled .ensures),
+      gathers (disables e) no-certificate _ (v .i) (v .broken) (v .inv .1) (omega arith) (disables-told e (x ∙ sweep-here certificates _ (v .inv .0)) m y),
+    )
 
 cast-set-mode : tie.Need-cast-set-mode Inv-loop μ-loop
 cast-set-mode c = search needs
@@ -58,9 +84,11 @@ same-length c = search needs
 returns : tie.Need-returns Inv-loop μ-loop
 unfolding message
 returns c =
-    let z = c .before .before .before .before .before .before .before .before .before .before in
-    c .before .before .set-mode .ensures
-    ∙ ap (λ p. encode (with-mode (z .args .e .third) p)) (sweep-said certificates _ (c .before .before .before .before .before .before .loop .inv) (omega arith))
+    let e = c .before .before .before .before .before .before .before .before .before .before .args .e in
+    let v = c .before .before .before .before .before .before .loop in (
+      c .before .before .set-mode .ensures ∙ ap (λ p. encode (with-mode (e .third) p)) (sweep-said certificates _ (v .inv .0) (omega arith)),
+      gathered (disables e) no-certificate _ (v .i) (v .broken) (v .inv .1) (omega arith),
+    )
 
 pub message-spec : {M : Type 1} → statement M
 message-spec =
@@ -71,11 +99,14 @@ message-spec =
     certificate-slots-requires
     loop-holds
     certificate-requires
-    enabled-after-requires
-    set-enabled-requires
     add-i
     loop-less
     loop-again
+    enabled-by-requires
+    set-enabled-requires
+    add-i-2
+    loop-less-2
+    loop-again-2
     cast-set-mode
     set-mode-requires
     same-length

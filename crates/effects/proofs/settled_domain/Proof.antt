@@ -1,24 +1,16 @@
-use mathlib.Core.Path.{sym, _∙_}
-use borrow.Author.Tests.{eq-eqb, ne-eqb}
 use borrow.Author.Needs.{needs}
-use Rattle.rules.specs.Effects.{settled}
+use Rattle.effects.proofs.Domains.{settled-keeps, settled-loses}
 use Rattle.effects.proofs.settled_domain.Statement.{statement}
 use Rattle.effects.proofs.settled_domain.Tie as tie
 
-returns : tie.Need-returns
-unfolding settled
-returns c = rw (eq-eqb _ _ (c .if1 .taken)) (sym (c .if1 .taken))
+is-chained-requires : tie.Need-is-chained-requires
+is-chained-requires c κs = search needs
 
-chains-to-requires : tie.Need-chains-to-requires
-chains-to-requires c κs = search needs
+returns : tie.Need-returns
+returns c = λ t l. settled-keeps _ t _ _ (c .before .is-chained .ensures t l) (c .if1 .taken)
 
 returns-2 : tie.Need-returns-2
-unfolding settled
-returns-2 c = rw (ne-eqb _ _ (c .before .before .if1 .left), sym (c .before .chains-to .ensures) ∙ c .if2 .taken)
-
-returns-3 : tie.Need-returns-3
-unfolding settled
-returns-3 c = rw (ne-eqb _ _ (c .before .before .if1 .left), sym (c .before .chains-to .ensures) ∙ c .if2 .left)
+returns-2 c = λ t l. settled-loses _ t _ _ (c .before .is-chained .ensures t l) (c .if1 .left)
 
 pub settled-domain-spec : {M : Type 1} → statement M
-settled-domain-spec = tie.close (tie.spec returns chains-to-requires returns-2 returns-3)
+settled-domain-spec = tie.close (tie.spec is-chained-requires returns returns-2)

@@ -1,5 +1,6 @@
+use mathlib.Core.Path.{refl}
 use Rattle.rules.specs.Forms.{with-kind}
-use Rattle.events.proofs.Handles.{handled-refused, handled-settled, framed-effect}
+use Rattle.events.proofs.Handles.{handled-refused, handled-settled, settleable}
 use Rattle.rules.specs.Effects.{effect, card-out}
 use Rattle.rules.specs.Step.{done}
 use borrow.Author.Needs.{needs}
@@ -23,7 +24,7 @@ card-out-requires-2 c κs = search needs
 
 settle-requires : tie.Need-settle-requires
 unfolding effect card-out
-settle-requires c κs = framed-effect (c .before .before .before .before .before .before .before .before .before .args .s .now) (with-kind 3 (c .before .before .before .before .before .before .before .before .before .args .e)) (c .before .before .before .before .before .before .before .before .before .pre .0) _ (c .before .before .before .card-out2 .ensures)
+settle-requires c κs = settleable (c .before .before .before .before .before .before .before .before .before .args .s .now) (with-kind 3 (c .before .before .before .before .before .before .before .before .before .args .e)) (c .before .before .before .before .before .before .before .before .before .pre .0) _ (c .before .before .before .card-out2 .ensures) refl
 
 refused-requires-2 : tie.Need-refused-requires-2
 refused-requires-2 c κs = search needs

@@ -1,9 +1,9 @@
-use mathlib.Core.Path.{sym, _∙_}
+use mathlib.Core.Path.{refl, sym, _∙_}
 use borrow.Author.Tests.{not-true}
 use Rattle.rules.specs.Forms.{with-kind}
 use Rattle.rules.specs.Effects.{effect, tick}
 use Rattle.rules.specs.Step.{done}
-use Rattle.events.proofs.Handles.{handled-refused, handled-settled, handled-still, framed-effect, accepted-phone}
+use Rattle.events.proofs.Handles.{handled-refused, handled-settled, handled-still, settleable, accepted-phone}
 use Rattle.events.proofs.Still.{tick-still}
 use borrow.Author.Needs.{needs}
 use Rattle.events.proofs.clock.Statement.{statement}
@@ -39,7 +39,7 @@ returns-2 c = handled-still _ (with-kind 1 (c .before .before .before .before .b
 
 settle-requires : tie.Need-settle-requires
 unfolding effect tick done
-settle-requires c κs = framed-effect (c .before .before .before .before .before .before .before .before .before .before .before .before .args .s .now) (with-kind 1 (c .before .before .before .before .before .before .before .before .before .before .before .before .args .e)) (c .before .before .before .before .before .before .before .before .before .before .before .before .pre .0) _ (c .before .before .before .before .tick .ensures)
+settle-requires c κs = settleable (c .before .before .before .before .before .before .before .before .before .before .before .before .args .s .now) (with-kind 1 (c .before .before .before .before .before .before .before .before .before .before .before .before .args .e)) (c .before .before .before .before .before .before .before .before .before .before .before .before .pre .0) _ (c .before .before .before .before .tick .ensures) refl
 
 refused-requires-3 : tie.Need-refused-requires-3
 refused-requires-3 c κs = search needs

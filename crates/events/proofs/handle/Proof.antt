@@ -1,59 +1,112 @@
 use mathlib.Core.Logic.{⊎-elim}
-use Rattle.events.proofs.Steps.{of-its-kind, no-such-kind, kind-zero, no-such-actor}
+use native.Mathlib.Omega.{arith}
+use Rattle.records.specs.Layout.{event-read}
+use Rattle.events.proofs.Steps.{low-actor, read-of-kind, no-such-kind, kind-zero, no-such-actor}
 use borrow.Author.Needs.{needs}
 use Rattle.events.proofs.handle.Statement.{statement}
 use Rattle.events.proofs.handle.Tie as tie
+
+actor-requires : tie.Need-actor-requires
+actor-requires c κs = search needs
 
 refused-requires : tie.Need-refused-requires
 refused-requires c κs = search needs
 
 returns : tie.Need-returns
-returns c = no-such-actor _ (c .before .before .before .before .args .e) (c .before .if1 .taken) _ (c .refused .ensures)
+returns c = no-such-actor _ (event-read (c .before .before .before .before .before .args .v .now) 0) (omega arith) _ (c .refused .ensures)
+
+kind-requires : tie.Need-kind-requires
+kind-requires c κs = search needs
+
+read-requires : tie.Need-read-requires
+read-requires c κs = search needs
 
 clock-requires : tie.Need-clock-requires
-clock-requires c κs = search needs
+clock-requires c κs = (search needs, low-actor _ (c .read .ensures) (c .before .before .before .before .before .actor .ensures) (omega arith))
+
+read-requires-2 : tie.Need-read-requires-2
+read-requires-2 c κs = search needs
 
 card-in-requires : tie.Need-card-in-requires
-card-in-requires c κs = search needs
+card-in-requires c κs = (search needs, low-actor _ (c .read2 .ensures) (c .before .before .before .before .before .actor .ensures) (omega arith))
+
+read-requires-3 : tie.Need-read-requires-3
+read-requires-3 c κs = search needs
 
 card-out-requires : tie.Need-card-out-requires
-card-out-requires c κs = search needs
+card-out-requires c κs = (search needs, low-actor _ (c .read3 .ensures) (c .before .before .before .before .before .actor .ensures) (omega arith))
+
+read-requires-4 : tie.Need-read-requires-4
+read-requires-4 c κs = search needs
 
 power-up-requires : tie.Need-power-up-requires
-power-up-requires c κs = search needs
+power-up-requires c κs = (search needs, low-actor _ (c .read4 .ensures) (c .before .before .before .before .before .actor .ensures) (omega arith))
+
+read-requires-5 : tie.Need-read-requires-5
+read-requires-5 c κs = search needs
 
 install-certificate-requires : tie.Need-install-certificate-requires
-install-certificate-requires c κs = search needs
+install-certificate-requires c κs = (search needs, low-actor _ (c .read5 .ensures) (c .before .before .before .before .before .actor .ensures) (omega arith))
+
+read-requires-6 : tie.Need-read-requires-6
+read-requires-6 c κs = search needs
 
 delete-certificate-requires : tie.Need-delete-certificate-requires
-delete-certificate-requires c κs = search needs
+delete-certificate-requires c κs = (search needs, low-actor _ (c .read6 .ensures) (c .before .before .before .before .before .actor .ensures) (omega arith))
+
+read-requires-7 : tie.Need-read-requires-7
+read-requires-7 c κs = search needs
 
 mark-valid-requires : tie.Need-mark-valid-requires
-mark-valid-requires c κs = search needs
+mark-valid-requires c κs = (search needs, low-actor _ (c .read7 .ensures) (c .before .before .before .before .before .actor .ensures) (omega arith))
+
+read-requires-8 : tie.Need-read-requires-8
+read-requires-8 c κs = search needs
 
 mark-invalid-requires : tie.Need-mark-invalid-requires
-mark-invalid-requires c κs = search needs
+mark-invalid-requires c κs = (search needs, low-actor _ (c .read8 .ensures) (c .before .before .before .before .before .actor .ensures) (omega arith))
+
+read-requires-9 : tie.Need-read-requires-9
+read-requires-9 c κs = search needs
 
 message-requires : tie.Need-message-requires
-message-requires c κs = search needs
+message-requires c κs = (search needs, low-actor _ (c .read9 .ensures) (c .before .before .before .before .before .actor .ensures) (omega arith))
+
+read-requires-10 : tie.Need-read-requires-10
+read-requires-10 c κs = search needs
 
 install-executable-requires : tie.Need-install-executable-requires
-install-executable-requires c κs = search needs
+install-executable-requires c κs = (search needs, low-actor _ (c .read10 .ensures) (c .before .before .before .before .before .actor .ensures) (omega arith))
+
+read-requires-11 : tie.Need-read-requires-11
+read-requires-11 c κs = search needs
 
 delete-executable-requires : tie.Need-delete-executable-requires
-delete-executable-requires c κs = search needs
+delete-executable-requires c κs = (search needs, low-actor _ (c .read11 .ensures) (c .before .before .before .before .before .actor .ensures) (omega arith))
+
+read-requires-12 : tie.Need-read-requires-12
+read-requires-12 c κs = search needs
 
 verify-requires : tie.Need-verify-requires
-verify-requires c κs = search needs
+verify-requires c κs = (search needs, low-actor _ (c .read12 .ensures) (c .before .before .before .before .before .actor .ensures) (omega arith))
+
+read-requires-13 : tie.Need-read-requires-13
+read-requires-13 c κs = search needs
 
 give-requires : tie.Need-give-requires
-give-requires c κs = search needs
+give-requires c κs = (search needs, low-actor _ (c .read13 .ensures) (c .before .before .before .before .before .actor .ensures) (omega arith))
+
+read-requires-14 : tie.Need-read-requires-14
+read-requires-14 c κs = search needs
 
 withdraw-requires : tie.Need-withdraw-requires
-withdraw-requires c κs = search needs
+withdraw-requires c κs = (search needs, low-actor _ (c .read14 .ensures) (c .before .before .before .before .before .actor .ensures) (omega arith))
+
+read-requires-15 : tie.Need-read-requires-15
+read-requires-15 c κs = search needs
 
 request-requires : tie.Need-request-requires
-request-requires c κs = search needs
+request-requires c κs = (search needs, low-actor _ (c .read15 .ensures) (c .before .before .before .before .before .actor .ensures) (omega arith))
 
 refused-requires-2 : tie.Need-refused-requires-2
 refused-requires-2 c κs = search needs
@@ -62,118 +115,135 @@ same-length : tie.Need-same-length
 same-length c = search needs
 
 returns-2 : tie.Need-returns-2
-returns-2 c = of-its-kind _ (c .before .before .before .before .before .before .before .before .args .e) 1 _ _ (c .before .before .before .before .match .keys1) (c .before .before .clock .ensures)
+returns-2 c = read-of-kind _ (c .before .before .before .read .ensures) _ 1 _ _ (c .before .before .before .before .before .before .kind .ensures) (c .before .before .before .before .before .match .keys1) (c .before .before .clock .ensures)
 
 same-length-2 : tie.Need-same-length-2
 same-length-2 c = search needs
 
 returns-3 : tie.Need-returns-3
-returns-3 c = of-its-kind _ (c .before .before .before .before .before .before .before .before .args .e) 2 _ _ (c .before .before .before .before .match .keys2) (c .before .before .card-in .ensures)
+returns-3 c = read-of-kind _ (c .before .before .before .read2 .ensures) _ 2 _ _ (c .before .before .before .before .before .before .kind .ensures) (c .before .before .before .before .before .match .keys2) (c .before .before .card-in .ensures)
 
 same-length-3 : tie.Need-same-length-3
 same-length-3 c = search needs
 
 returns-4 : tie.Need-returns-4
-returns-4 c = of-its-kind _ (c .before .before .before .before .before .before .before .before .args .e) 3 _ _ (c .before .before .before .before .match .keys3) (c .before .before .card-out .ensures)
+returns-4 c = read-of-kind _ (c .before .before .before .read3 .ensures) _ 3 _ _ (c .before .before .before .before .before .before .kind .ensures) (c .before .before .before .before .before .match .keys3) (c .before .before .card-out .ensures)
 
 same-length-4 : tie.Need-same-length-4
 same-length-4 c = search needs
 
 returns-5 : tie.Need-returns-5
-returns-5 c = of-its-kind _ (c .before .before .before .before .before .before .before .before .args .e) 4 _ _ (c .before .before .before .before .match .keys4) (c .before .before .power-up .ensures)
+returns-5 c = read-of-kind _ (c .before .before .before .read4 .ensures) _ 4 _ _ (c .before .before .before .before .before .before .kind .ensures) (c .before .before .before .before .before .match .keys4) (c .before .before .power-up .ensures)
 
 same-length-5 : tie.Need-same-length-5
 same-length-5 c = search needs
 
 returns-6 : tie.Need-returns-6
-returns-6 c = of-its-kind _ (c .before .before .before .before .before .before .before .before .args .e) 5 _ _ (c .before .before .before .before .match .keys5) (c .before .before .install-certificate .ensures)
+returns-6 c = read-of-kind _ (c .before .before .before .read5 .ensures) _ 5 _ _ (c .before .before .before .before .before .before .kind .ensures) (c .before .before .before .before .before .match .keys5) (c .before .before .install-certificate .ensures)
 
 same-length-6 : tie.Need-same-length-6
 same-length-6 c = search needs
 
 returns-7 : tie.Need-returns-7
-returns-7 c = of-its-kind _ (c .before .before .before .before .before .before .before .before .args .e) 6 _ _ (c .before .before .before .before .match .keys6) (c .before .before .delete-certificate .ensures)
+returns-7 c = read-of-kind _ (c .before .before .before .read6 .ensures) _ 6 _ _ (c .before .before .before .before .before .before .kind .ensures) (c .before .before .before .before .before .match .keys6) (c .before .before .delete-certificate .ensures)
 
 same-length-7 : tie.Need-same-length-7
 same-length-7 c = search needs
 
 returns-8 : tie.Need-returns-8
-returns-8 c = of-its-kind _ (c .before .before .before .before .before .before .before .before .args .e) 7 _ _ (c .before .before .before .before .match .keys7) (c .before .before .mark-valid .ensures)
+returns-8 c = read-of-kind _ (c .before .before .before .read7 .ensures) _ 7 _ _ (c .before .before .before .before .before .before .kind .ensures) (c .before .before .before .before .before .match .keys7) (c .before .before .mark-valid .ensures)
 
 same-length-8 : tie.Need-same-length-8
 same-length-8 c = search needs
 
 returns-9 : tie.Need-returns-9
-returns-9 c = of-its-kind _ (c .before .before .before .before .before .before .before .before .args .e) 8 _ _ (c .before .before .before .before .match .keys8) (c .before .before .mark-invalid .ensures)
+returns-9 c = read-of-kind _ (c .before .before .before .read8 .ensures) _ 8 _ _ (c .before .before .before .before .before .before .kind .ensures) (c .before .before .before .before .before .match .keys8) (c .before .before .mark-invalid .ensures)
 
 same-length-9 : tie.Need-same-length-9
 same-length-9 c = search needs
 
 returns-10 : tie.Need-returns-10
-returns-10 c = of-its-kind _ (c .before .before .before .before .before .before .before .before .args .e) 9 _ _ (c .before .before .before .before .match .keys9) (c .before .before .message .ensures)
+returns-10 c = read-of-kind _ (c .before .before .before .read9 .ensures) _ 9 _ _ (c .before .before .before .before .before .before .kind .ensures) (c .before .before .before .before .before .match .keys9) (c .before .before .message .ensures)
 
 same-length-10 : tie.Need-same-length-10
 same-length-10 c = search needs
 
 returns-11 : tie.Need-returns-11
-returns-11 c = of-its-kind _ (c .before .before .before .before .before .before .before .before .args .e) 10 _ _ (c .before .before .before .before .match .keys10) (c .before .before .install-executable .ensures)
+returns-11 c = read-of-kind _ (c .before .before .before .read10 .ensures) _ 10 _ _ (c .before .before .before .before .before .before .kind .ensures) (c .before .before .before .before .before .match .keys10) (c .before .before .install-executable .ensures)
 
 same-length-11 : tie.Need-same-length-11
 same-length-11 c = search needs
 
 returns-12 : tie.Need-returns-12
-returns-12 c = of-its-kind _ (c .before .before .before .before .before .before .before .before .args .e) 11 _ _ (c .before .before .before .before .match .keys11) (c .before .before .delete-executable .ensures)
+returns-12 c = read-of-kind _ (c .before .before .before .read11 .ensures) _ 11 _ _ (c .before .before .before .before .before .before .kind .ensures) (c .before .before .before .before .before .match .keys11) (c .before .before .delete-executable .ensures)
 
 same-length-12 : tie.Need-same-length-12
 same-length-12 c = search needs
 
 returns-13 : tie.Need-returns-13
-returns-13 c = of-its-kind _ (c .before .before .before .before .before .before .before .before .args .e) 12 _ _ (c .before .before .before .before .match .keys12) (c .before .before .verify .ensures)
+returns-13 c = read-of-kind _ (c .before .before .before .read12 .ensures) _ 12 _ _ (c .before .before .before .before .before .before .kind .ensures) (c .before .before .before .before .before .match .keys12) (c .before .before .verify .ensures)
 
 same-length-13 : tie.Need-same-length-13
 same-length-13 c = search needs
 
 returns-14 : tie.Need-returns-14
-returns-14 c = of-its-kind _ (c .before .before .before .before .before .before .before .before .args .e) 13 _ _ (c .before .before .before .before .match .keys13) (c .before .before .give .ensures)
+returns-14 c = read-of-kind _ (c .before .before .before .read13 .ensures) _ 13 _ _ (c .before .before .before .before .before .before .kind .ensures) (c .before .before .before .before .before .match .keys13) (c .before .before .give .ensures)
 
 same-length-14 : tie.Need-same-length-14
 same-length-14 c = search needs
 
 returns-15 : tie.Need-returns-15
-returns-15 c = of-its-kind _ (c .before .before .before .before .before .before .before .before .args .e) 14 _ _ (c .before .before .before .before .match .keys14) (c .before .before .withdraw .ensures)
+returns-15 c = read-of-kind _ (c .before .before .before .read14 .ensures) _ 14 _ _ (c .before .before .before .before .before .before .kind .ensures) (c .before .before .before .before .before .match .keys14) (c .before .before .withdraw .ensures)
 
 same-length-15 : tie.Need-same-length-15
 same-length-15 c = search needs
 
 returns-16 : tie.Need-returns-16
-returns-16 c = of-its-kind _ (c .before .before .before .before .before .before .args .e) 15 _ _ (c .before .before .match .keys15) (c .request .ensures)
+returns-16 c = read-of-kind _ (c .before .read15 .ensures) _ 15 _ _ (c .before .before .before .before .kind .ensures) (c .before .before .before .match .keys15) (c .request .ensures)
 
 returns-17 : tie.Need-returns-17
 returns-17 c =
-    let e = c .before .before .before .before .before .args .e in
-    ⊎-elim (λ z. kind-zero _ e (z .keys16) _ (c .refused2 .ensures))
-    (λ r. no-such-kind _ e (r .rest .0 .0 .0 .0 .0 .0 .0 .0 .0 .0 .0 .0 .0 .0 .0 .1) (r .rest .0 .0 .0 .0 .0 .0 .0 .0 .0 .0 .0 .0 .0 .0 .1) (r .rest .0 .0 .0 .0 .0 .0 .0 .0 .0 .0 .0 .0 .0 .1) (r .rest .0 .0 .0 .0 .0 .0 .0 .0 .0 .0 .0 .0 .1) (r .rest .0 .0 .0 .0 .0 .0 .0 .0 .0 .0 .0 .1) (r .rest .0 .0 .0 .0 .0 .0 .0 .0 .0 .0 .1) (r .rest .0 .0 .0 .0 .0 .0 .0 .0 .0 .1) (r .rest .0 .0 .0 .0 .0 .0 .0 .0 .1) (r .rest .0 .0 .0 .0 .0 .0 .0 .1) (r .rest .0 .0 .0 .0 .0 .0 .1) (r .rest .0 .0 .0 .0 .0 .1) (r .rest .0 .0 .0 .0 .1) (r .rest .0 .0 .0 .1) (r .rest .0 .0 .1) (r .rest .0 .1) _ (c .refused2 .ensures)) (c .before .match .came)
+    let i = c .before .before .kind .ensures in
+    ⊎-elim (λ z. kind-zero _ _ _ i (z .keys16) _ (c .refused2 .ensures))
+    (λ r. no-such-kind _ _ _ i (r .rest .0 .0 .0 .0 .0 .0 .0 .0 .0 .0 .0 .0 .0 .0 .0 .1) (r .rest .0 .0 .0 .0 .0 .0 .0 .0 .0 .0 .0 .0 .0 .0 .1) (r .rest .0 .0 .0 .0 .0 .0 .0 .0 .0 .0 .0 .0 .0 .1) (r .rest .0 .0 .0 .0 .0 .0 .0 .0 .0 .0 .0 .0 .1) (r .rest .0 .0 .0 .0 .0 .0 .0 .0 .0 .0 .0 .1) (r .rest .0 .0 .0 .0 .0 .0 .0 .0 .0 .0 .1) (r .rest .0 .0 .0 .0 .0 .0 .0 .0 .0 .1) (r .rest .0 .0 .0 .0 .0 .0 .0 .0 .1) (r .rest .0 .0 .0 .0 .0 .0 .0 .1) (r .rest .0 .0 .0 .0 .0 .0 .1) (r .rest .0 .0 .0 .0 .0 .1) (r .rest .0 .0 .0 .0 .1) (r .rest .0 .0 .0 .1) (r .rest .0 .0 .1) (r .rest .0 .1) _ (c .refused2 .ensures)) (c .before .match .came)
 
 pub handle-spec : {M : Type 1} → statement M
 handle-spec =
     tie.close
     (tie.spec
+    actor-requires
     refused-requires
     returns
+    kind-requires
+    read-requires
     clock-requires
+    read-requires-2
     card-in-requires
+    read-requires-3
     card-out-requires
+    read-requires-4
     power-up-requires
+    read-requires-5
     install-certificate-requires
+    read-requires-6
     delete-certificate-requires
+    read-requires-7
     mark-valid-requires
+    read-requires-8
     mark-invalid-requires
+    read-requires-9
     message-requires
+    read-requires-10
     install-executable-requires
+    read-requires-11
     delete-executable-requires
+    read-requires-12
     verify-requires
+    read-requires-13
     give-requires
+    read-requires-14
     withdraw-requires
+    read-requires-15
     request-requires
     refused-requires-2
     same-length

@@ -1,6 +1,7 @@
+use mathlib.Core.Path.{refl}
 use Rattle.events.proofs.Handles.{named-id}
 use Rattle.rules.specs.Forms.{with-kind}
-use Rattle.events.proofs.Handles.{handled-refused, handled-settled, framed-effect}
+use Rattle.events.proofs.Handles.{handled-refused, handled-settled, settleable}
 use Rattle.rules.specs.Effects.{effect, mark-invalid}
 use Rattle.rules.specs.Step.{done}
 use borrow.Author.Needs.{needs}
@@ -24,7 +25,7 @@ mark-invalid-requires-2 c κs = (c .before .before .before .before .before .befo
 
 settle-requires : tie.Need-settle-requires
 unfolding effect mark-invalid
-settle-requires c κs = framed-effect (c .before .before .before .before .before .before .before .before .before .before .args .s .now) (with-kind 8 (c .before .before .before .before .before .before .before .before .before .before .args .e)) (c .before .before .before .before .before .before .before .before .before .before .pre .0) _ (c .before .before .before .mark-invalid2 .ensures)
+settle-requires c κs = settleable (c .before .before .before .before .before .before .before .before .before .before .args .s .now) (with-kind 8 (c .before .before .before .before .before .before .before .before .before .before .args .e)) (c .before .before .before .before .before .before .before .before .before .before .pre .0) _ (c .before .before .before .mark-invalid2 .ensures) refl
 
 refused-requires-2 : tie.Need-refused-requires-2
 refused-requires-2 c κs = search needs

@@ -1,11 +1,11 @@
 use mathlib.Core.Bool.{false}
-use mathlib.Core.Path.{sym, _∙_}
+use mathlib.Core.Path.{refl, sym, _∙_}
 use borrow.Author.Tests.{not-true}
 use Rattle.rules.specs.Forms.{with-kind}
 use Rattle.rules.specs.Effects.{effect, mark-valid}
 use Rattle.rules.specs.Step.{done}
 use Rattle.effects.proofs.Marking.{named}
-use Rattle.events.proofs.Handles.{named-id, handled-refused, handled-settled, handled-still, framed-effect, accepted-phone}
+use Rattle.events.proofs.Handles.{named-id, handled-refused, handled-settled, handled-still, settleable, accepted-phone}
 use Rattle.events.proofs.Still.{mark-still}
 use borrow.Author.Needs.{needs}
 use Rattle.events.proofs.mark_valid.Statement.{statement}
@@ -45,7 +45,7 @@ returns-2 c = let z = c .before .before .before .before .before .before .before 
 
 settle-requires : tie.Need-settle-requires
 unfolding effect mark-valid done
-settle-requires c κs = framed-effect (c .before .before .before .before .before .before .before .before .before .before .before .before .before .before .args .s .now) (with-kind 7 (c .before .before .before .before .before .before .before .before .before .before .before .before .before .before .args .e)) (c .before .before .before .before .before .before .before .before .before .before .before .before .before .before .pre .0) _ (c .before .before .before .before .mark-valid2 .ensures)
+settle-requires c κs = settleable (c .before .before .before .before .before .before .before .before .before .before .before .before .before .before .args .s .now) (with-kind 7 (c .before .before .before .before .before .before .before .before .before .before .before .before .before .before .args .e)) (c .before .before .before .before .before .before .before .before .before .before .before .before .before .before .pre .0) _ (c .before .before .before .before .mark-valid2 .ensures) refl
 
 refused-requires-3 : tie.Need-refused-requires-3
 refused-requires-3 c κs = search needs

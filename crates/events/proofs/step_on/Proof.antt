@@ -9,9 +9,6 @@ refused-requires c κs = search needs
 returns : tie.Need-returns
 returns c = short-stepped _ _ (c .before .before .before .before .pre) (c .before .if1 .taken) _ (c .refused .ensures)
 
-read-requires : tie.Need-read-requires
-read-requires c κs = search needs
-
 handle-requires : tie.Need-handle-requires
 handle-requires c κs = search needs
 
@@ -19,15 +16,7 @@ same-length : tie.Need-same-length
 same-length c = search needs
 
 returns-2 : tie.Need-returns-2
-returns-2 c = handled-stepped _ _ (c .before .before .before .before .before .before .before .before .pre) (c .before .before .before .before .before .if1 .left) _ (c .before .before .before .read .ensures) _ _ (λ i. c .slice-known2 .given i .fits) (c .before .before .handle .ensures)
+returns-2 c = handled-stepped _ _ (c .before .before .before .before .before .before .before .pre) (c .before .before .before .before .if1 .left) _ _ (λ i. c .slice-known2 .given i .fits) (c .before .before .handle .ensures)
 
 pub step-on-spec : {M : Type 1} → statement M
-step-on-spec =
-    tie.close
-    (tie.spec
-    refused-requires
-    returns
-    read-requires
-    handle-requires
-    same-length
-    returns-2)
+step-on-spec = tie.close (tie.spec refused-requires returns handle-requires same-length returns-2)

@@ -6,18 +6,15 @@ use mathlib.Core.Path.{_≡_, refl}
 use Rattle.records.specs.Phone.{decode, no-executable}
 use Rattle.rules.specs.Words.{all}
 use Rattle.rules.proofs.Loops.{all-stops, all-goes-on, all-passes}
-use Rattle.rules.specs.ImageRules.{i8}
-use Rattle.rules.specs.Chains.{chains-to}
-use mathlib.Core.Bool.{_||_}
-use lib.Dec.{eqb}
+use Rattle.chain.specs.Keys.{chained-in}
 use Rattle.opening.proofs.all_chained.Statement.{statement}
 use Rattle.opening.proofs.all_chained.Tie as tie
 
 abbrev Inv-loop : tie.InvT-loop
-Inv-loop s table slots i₀ i = (i ≤ slots) × (slots ≡ length (decode s .executables)) × (all (λ x. eqb (x .domain) 0 || chains-to (decode s .trust) (x .signing) (x .domain)) (drop i (decode s .executables)) ≡ all (λ x. eqb (x .domain) 0 || chains-to (decode s .trust) (x .signing) (x .domain)) (decode s .executables))
+Inv-loop s domain keys count slots i₀ i = (i ≤ slots) × (slots ≡ length (decode s .executables)) × (all (chained-in domain (decode s .trust)) (drop i (decode s .executables)) ≡ all (chained-in domain (decode s .trust)) (decode s .executables))
 
 abbrev μ-loop : tie.MeasureT-loop
-μ-loop s table slots i₀ i = slots - i
+μ-loop s domain keys count slots i₀ i = slots - i
 
 executable-slots-requires : tie.Need-executable-slots-requires Inv-loop μ-loop
 executable-slots-requires c κs = search needs
@@ -32,8 +29,7 @@ is-chained-requires : tie.Need-is-chained-requires Inv-loop μ-loop
 is-chained-requires c κs = search needs
 
 returns : tie.Need-returns Inv-loop μ-loop
-unfolding i8
-returns c = all-stops no-executable _ (c .before .before .before .before .loop .i) _ _ (c .before .before .before .before .loop .inv .2) (omega arith) (c .before .before .executable .ensures) (c .before .is-chained .ensures) (c .if1 .taken)
+returns c = all-stops no-executable _ (c .before .before .before .before .loop .i) _ _ (c .before .before .before .before .loop .inv .2) (omega arith) (c .before .before .executable .ensures) (c .before .is-chained .ensures _ (c .before .before .before .before .before .before .before .before .pre .1 .1)) (c .if1 .taken)
 
 add-i : tie.Need-add-i Inv-loop μ-loop
 add-i c = search needs
@@ -42,10 +38,9 @@ loop-less : tie.Need-loop-less Inv-loop μ-loop
 loop-less c = search needs
 
 loop-again : tie.Need-loop-again Inv-loop μ-loop
-loop-again c = (search needs, search needs, all-goes-on no-executable _ (c .before .before .before .before .loop .i) _ _ (c .before .before .before .before .loop .inv .2) (omega arith) (c .before .before .executable .ensures) (c .before .is-chained .ensures) (c .if1 .left))
+loop-again c = (search needs, search needs, all-goes-on no-executable _ (c .before .before .before .before .loop .i) _ _ (c .before .before .before .before .loop .inv .2) (omega arith) (c .before .before .executable .ensures) (c .before .is-chained .ensures _ (c .before .before .before .before .before .before .before .before .pre .1 .1)) (c .if1 .left))
 
 returns-2 : tie.Need-returns-2 Inv-loop μ-loop
-unfolding i8
 returns-2 c = all-passes no-executable _ (c .before .loop .i) _ _ (c .before .loop .inv .2) (omega arith)
 
 pub all-chained-spec : {M : Type 1} → statement M

@@ -1,3 +1,7 @@
+use borrow.Author.Tests.{not-false}
+use Rattle.records.specs.Phone.{decode}
+use Rattle.rules.specs.ImageRules.{i7}
+use Rattle.rules.proofs.Accepts.{true-T}
 use native.Mathlib.Omega.{arith}
 use Rattle.opening.proofs.Answers.{breaks-i1, breaks-i2, breaks-i3, breaks-i4, breaks-i5, breaks-i6, breaks-i7, breaks-i8, frames, opens}
 use borrow.Author.Needs.{needs}
@@ -47,7 +51,7 @@ returns-7 : tie.Need-returns-7
 returns-7 c = breaks-i7 _ (cc)
 
 i8-requires : tie.Need-i8-requires
-i8-requires c κs = frames _ (λ i. omega (arith, c .before .before .before .before .before .before .before .before .before .before .before .before .before .before .shared-slice-known .given i)) (cc)
+i8-requires c κs = (frames _ (λ i. omega (arith, c .before .before .before .before .before .before .before .before .before .before .before .before .before .before .shared-slice-known .given i)) (cc), true-T (i7 (decode (c .before .before .before .before .before .before .before .before .before .before .before .before .before .before .before .args .s .now))) (not-false _ (cc)))
 
 returns-8 : tie.Need-returns-8
 returns-8 c = breaks-i8 _ (cc)

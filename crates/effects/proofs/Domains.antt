@@ -1,0 +1,102 @@
+-- Settling one domain after the other settles them all: an executable has one domain, and one that lost it has none. Assumes nothing.
+use Prim.Native.Nat.{ℕ, zero, suc, _≤_}
+use mathlib.Core.Bool.{Bool, true, false, cond, not, _||_}
+use mathlib.Core.List.{List, [], _∷_, map, List·Memᴰ, List·Memᴰ·head, List·Memᴰ·tail}
+use mathlib.Core.Logic.{_≢_}
+use mathlib.Core.Path.{_≡_, refl, sym, ap, ap₂, _∙_}
+use native.Mathlib.Omega.{arith}
+use borrow.Author.Tests.{eq-eqb, ne-eqb}
+use lib.Dec.{eqb}
+use lib.ListN.{length-map}
+use Rattle.records.specs.Phone.{Trust, Phone, decode, encode, with-executables, in-domain}
+use Rattle.records.specs.Frame.{Framed}
+use Rattle.records.specs.declared.Executable.{Executable}
+use Rattle.rules.specs.Chains.{chains-to}
+use Rattle.rules.specs.Effects.{settled, settle}
+use Rattle.chain.specs.Keys.{chained-in}
+use Rattle.effects.proofs.Parts.{executables, says, framed-as}
+use Rattle.effects.specs.Sweeps.{settled-in, settle-in, Domains-known}
+
+module _ (t : Trust) where
+  -- an executable of another domain stays as it is
+  other : (d : ℕ) (x : Executable) → x .domain ≢ d → settled-in d t x ≡ x
+  unfolding settled-in chained-in
+  other d x h = ap (λ b. cond (not b || chains-to t (x .signing) d) x (in-domain 0 x)) (ne-eqb (x .domain) d h)
+
+  -- whether one of domain d keeps it or not, the turn of another domain changes nothing
+  stays : (d k : ℕ) (x : Executable) → x .domain ≡ d → d ≢ k → 0 ≢ k → (b : Bool) → settled-in k t (cond b x (in-domain 0 x)) ≡ cond b x (in-domain 0 x)
+  stays d k x e n z true = other k x (λ q. n (sym e ∙ q))
+  stays d k x e n z false = other k (in-domain 0 x) z
+
+  -- its own turn is settling
+  own : (d : ℕ) (x : Executable) → x .domain ≡ d → d ≢ 0 → settled-in d t x ≡ settled t x
+  unfolding settled-in settled chained-in
+  own d x e z =
+      ap (λ b. cond (not b || chains-to t (x .signing) d) x (in-domain 0 x)) (eq-eqb (x .domain) d e)
+      ∙ ap (λ k. cond (chains-to t (x .signing) k) x (in-domain 0 x)) (sym e)
+      ∙ ap (λ b. cond (b || chains-to t (x .signing) (x .domain)) x (in-domain 0 x)) (sym (ne-eqb (x .domain) 0 (λ q. z (sym e ∙ q))))
+
+  settled-stays : (d k : ℕ) (x : Executable) → x .domain ≡ d → d ≢ k → 0 ≢ k → settled-in k t (settled t x) ≡ settled t x
+  unfolding settled
+  settled-stays d k x e n z = stays d k x e n z (eqb (x .domain) 0 || chains-to t (x .signing) (x .domain))
+
+  none : (x : Executable) → x .domain ≡ 0 → x ≡ settled t x
+  unfolding settled
+  none x e = ap (λ b. cond (b || chains-to t (x .signing) (x .domain)) x (in-domain 0 x)) (sym (eq-eqb (x .domain) 0 e))
+
+  turns : (x : Executable) → x .domain ≤ 3 → settled-in 3 t (settled-in 2 t (settled-in 1 t x)) ≡ settled t x
+  turns x h = go (x .domain) refl h
+    where
+      go : (d : ℕ) → x .domain ≡ d → d ≤ 3 → settled-in 3 t (settled-in 2 t (settled-in 1 t x)) ≡ settled t x
+      go zero e h =
+          ap (λ y. settled-in 3 t (settled-in 2 t y)) (other 1 x (λ q. omega (arith, e, q)))
+          ∙ ap (settled-in 3 t) (other 2 x (λ q. omega (arith, e, q)))
+          ∙ other 3 x (λ q. omega (arith, e, q))
+          ∙ none x e
+      go (suc zero) e h =
+          ap (λ y. settled-in 3 t (settled-in 2 t y)) (own 1 x e (λ q. omega arith))
+          ∙ ap (settled-in 3 t) (settled-stays 1 2 x e (λ q. omega arith) (λ q. omega arith))
+          ∙ settled-stays 1 3 x e (λ q. omega arith) (λ q. omega arith)
+      go (suc (suc zero)) e h =
+          ap (λ y. settled-in 3 t (settled-in 2 t y)) (other 1 x (λ q. omega (arith, e, q)))
+          ∙ ap (settled-in 3 t) (own 2 x e (λ q. omega arith))
+          ∙ settled-stays 2 3 x e (λ q. omega arith) (λ q. omega arith)
+      go (suc (suc (suc zero))) e h =
+          ap (λ y. settled-in 3 t (settled-in 2 t y)) (other 1 x (λ q. omega (arith, e, q)))
+          ∙ ap (settled-in 3 t) (other 2 x (λ q. omega (arith, e, q)))
+          ∙ own 3 x e (λ q. omega arith)
+      go (suc (suc (suc (suc d)))) e h = absurd (omega arith)
+
+  all-turns : (l : List Executable) → ((x : Executable) → List·Memᴰ x l → x .domain ≤ 3) → map (settled-in 3 t) (map (settled-in 2 t) (map (settled-in 1 t) l)) ≡ map (settled t) l
+  all-turns [] h = refl
+  all-turns (x ∷ l) h = ap₂ (λ y r. y ∷ r) (turns x (h x (List·Memᴰ·head refl))) (all-turns l (λ y m. h y (List·Memᴰ·tail m)))
+
+by-domains : (p : Phone) → Domains-known p → settle-in 3 (settle-in 2 (settle-in 1 p)) ≡ settle p
+unfolding settle-in settle
+by-domains p k = ap (λ l. with-executables l p) (all-turns (p .trust) (p .executables) (k .known))
+
+-- ---- in an image
+
+pub turn-framed : (d : ℕ) (s : List ℕ) {s₁ : List ℕ} → Framed s → s₁ ≡ encode (settle-in d (decode s)) → Framed s₁
+unfolding settle-in
+turn-framed d s g w =
+    let f = settled-in d (decode s .trust) in
+    framed-as (settle-in d (decode s)) w (executables .put-sized (map f (decode s .executables)) (decode s) (length-map (decode s .executables) f) (g .sized))
+
+pub turns-written : (s s₁ s₂ : List ℕ) {s₃ : List ℕ} → Domains-known (decode s) → s₁ ≡ encode (settle-in 1 (decode s)) → s₂ ≡ encode (settle-in 2 (decode s₁)) → s₃ ≡ encode (settle-in 3 (decode s₂)) → s₃ ≡ encode (settle (decode s))
+turns-written s s₁ s₂ k e₁ e₂ e₃ =
+    e₃
+    ∙ ap (λ p. encode (settle-in 3 p)) (says (settle-in 2 (decode s₁)) e₂)
+    ∙ ap (λ p. encode (settle-in 3 (settle-in 2 p))) (says (settle-in 1 (decode s)) e₁)
+    ∙ ap encode (by-domains (decode s) k)
+
+-- ---- one executable, by what was asked of it
+
+module _ (d : ℕ) (t : Trust) (x : Executable) (b : Bool) (e : b ≡ chained-in d t x) where
+  pub settled-keeps : b ≡ true → x .domain ≡ settled-in d t x .domain
+  unfolding settled-in
+  settled-keeps y = ap (λ b. cond b x (in-domain 0 x) .domain) (sym y ∙ e)
+
+  pub settled-loses : b ≡ false → 0 ≡ settled-in d t x .domain
+  unfolding settled-in
+  settled-loses n = ap (λ b. cond b x (in-domain 0 x) .domain) (sym n ∙ e)
