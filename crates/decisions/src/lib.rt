@@ -324,7 +324,7 @@ pub fn install_certificate(s: &[u8], e: Event) -> Plan
     ensures { λ r. ⌜ For-certificate 5 (decode (now (s .entry))) e r ⌝ }
 {
     let c = new_certificate(image::mode(s), e);
-    if !opening::certificate_fits(c) {
+    if !forms::certificate_fits(c) {
         return Plan { code: 2, slot: 0 };
     }
     if !may_act(5, c.domain, e.actor) {

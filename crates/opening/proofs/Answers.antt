@@ -2,7 +2,7 @@
 use Prim.Native.Nat.{ℕ}
 use mathlib.Core.Bool.{Bool, true, false, cond, not}
 use mathlib.Core.List.{List}
-use mathlib.Core.Path.{_≡_, refl, subst}
+use mathlib.Core.Path.{_≡_, refl, sym, ap, _∙_, subst}
 use native.Mathlib.Omega.{arith}
 use lib.Dec.{T}
 use borrow.Author.Tests.{not-true, not-false}
@@ -15,6 +15,10 @@ use Rattle.rules.specs.ImageRules.{i2, i3, i4, i5, i6, i7, i8, broken, accepted
 use Rattle.rules.proofs.Accepts.{Ruled, accepts-in, accepted-out, true-T}
 use Rattle.opening.specs.Opened.{Opened}
 use Rattle.opening.proofs.Promise.{accepted-image}
+
+-- what a test told of its rule
+pub told : {r b v : Bool} → r ≡ b → not r ≡ v → not b ≡ v
+told e h = ap not (sym e) ∙ h
 
 module _ (l : List ℕ) where
   -- ---- 1

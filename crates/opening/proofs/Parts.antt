@@ -3,13 +3,12 @@ use mathlib.Core.Bool.{Bool, true, false, not, _&&_}
 use mathlib.Core.List.{map}
 use mathlib.Core.Path.{_≡_}
 use lib.Dec.{eqb}
-use lib.ListN.{length}
 use borrow.Author.Tests.{not-true, not-false}
 use Rattle.records.specs.Phone.{Phone}
 use Rattle.records.specs.declared.Certificate.{Certificate}
 use Rattle.rules.specs.Words.{_implies_, all, all-pairs, distinct}
-use Rattle.rules.specs.ImageRules.{known-place, operator-of, valid-in, has-valid-operator, key-of-one-domain, card-owns, one-in-place, yields-to-card, one-manufacturer, i3, i4, i5, i7}
-use Rattle.rules.proofs.Fits.{card-fits, program-fits}
+use Rattle.rules.specs.ImageRules.{known-place, operator-of, valid-in, has-valid-operator, key-of-one-domain, card-owns, one-in-place, yields-to-card, one-manufacturer, i3, i4, i5}
+use Rattle.rules.proofs.Fits.{card-fits}
 
 -- ---- if the first, then the second
 
@@ -127,19 +126,3 @@ module _ (p : Phone) where
     pub yields-owner : {y : Bool} → on-phone ≡ true → on-card ≡ false → y ≡ card-owner → y ≡ yields-to-card p c
     unfolding yields-to-card
     yields-owner h k e = implied on-phone (not on-card && card-owner) h (rw k e)
-
-  -- ---- I7
-
-  abbrev programs-fit : Bool
-  programs-fit = all (program-fits (length (p .table))) (p .executables)
-
-  abbrev programs-distinct : Bool
-  programs-distinct = distinct (map (λ x. x .id) (p .executables))
-
-  pub i7-program : not programs-fit ≡ true → false ≡ i7 p
-  unfolding i7
-  i7-program a = rw (not-true programs-fit a)
-
-  pub i7-ids : {y : Bool} → not programs-fit ≡ false → y ≡ programs-distinct → y ≡ i7 p
-  unfolding i7
-  i7-ids a e = rw (not-false programs-fit a) e
