@@ -1,6 +1,6 @@
 -- The search back from a key, level by level: the first level with a trusted root is the key's link count. Assumes nothing.
 use Prim.Native.Nat.{ℕ, zero, suc, _+_, _≤_, _<_}
-use mathlib.Core.Bool.{Bool, true, false, cond, not, _&&_, _||_, false≢true}
+use mathlib.Core.Bool.{Bool, true, false, cond, not, _&&_, _||_, and-assoc, or-false, false≢true}
 use mathlib.Core.List.{List, List·Memᴰ}
 use mathlib.Core.Logic.{_≢_, _⊎_, inl, inr}
 use mathlib.Core.Path.{_≡_, refl, sym, ap, _∙_, subst}
@@ -21,11 +21,6 @@ use Rattle.chain.proofs.Good.{same}
 use Rattle.chain.proofs.Among.{among-more, among-none}
 use Rattle.chain.proofs.Rounds.{passed, taken, known, ended, left-more, any-same}
 
--- x, y and z, the first two together
-together : (x y z : Bool) → (x && (y && z)) ≡ ((x && y) && z)
-together true y z = refl
-together false y z = refl
-
 module _ (t : Trust) (d : ℕ) (p : ℕ → Bool) where
   rooted-is : (c : Certificate) → rooted t d p c ≡ ((eqb (c .domain) d && p (c .key)) && trusted-root (t .seen) c)
   unfolding rooted
@@ -33,7 +28,7 @@ module _ (t : Trust) (d : ℕ) (p : ℕ → Bool) where
 
   led-is : (v : ℕ) (c : Certificate) → led t d p v c ≡ ((eqb (c .domain) d && p (c .key)) && (link (t .seen) c && eqb (c .verifying) v))
   unfolding led
-  led-is v c = sym (together (eqb (c .domain) d && p (c .key)) (link (t .seen) c) (eqb (c .verifying) v))
+  led-is v c = and-assoc (eqb (c .domain) d && p (c .key)) (link (t .seen) c) (eqb (c .verifying) v)
 
 -- ---- one level: a list of keys that grows, and the slots that are left
 
@@ -103,7 +98,7 @@ module _ (t : Trust) (d : ℕ) (wanted : List ℕ) (count : ℕ) where
     keys-skip : (l : Bool) → l ≡ link (t .seen) c → (b && l) ≡ false → (v : ℕ) → (among (λ x. eqb x v) next size || leads v (i + 1)) ≡ leads v 0
     keys-skip l f z v =
         passed (b && (l && eqb (c .verifying) v)) (among (λ x. eqb x v) next size) (leads v (i + 1)) (leads v 0) (keys-here l f v)
-        (together b l (eqb (c .verifying) v) ∙ ap (λ x. x && eqb (c .verifying) v) z)
+        (sym (and-assoc b l (eqb (c .verifying) v)) ∙ ap (λ x. x && eqb (c .verifying) v) z)
 
     pub searching-unwanted : b ≡ false → Searching next size (i + 1)
     searching-unwanted z =
@@ -162,11 +157,7 @@ module _ (t : Trust) (d : ℕ) (wanted : List ℕ) (count : ℕ) where
 -- the one key that the first level looks for
 pub first-keys : (k : ℕ) → Lists (λ v. eqb v k) (replicate 1 k) 1
 unfolding among
-first-keys k = record { few = omega arith; at = λ v. alone (eqb k v) ∙ same (eqb k v) (eqb v k) (λ h. si v k (sym (is k v h))) (λ h. si k v (sym (is v k h))) }
-  where
-    alone : (a : Bool) → (a || false) ≡ a
-    alone true = refl
-    alone false = refl
+first-keys k = record { few = omega arith; at = λ v. or-false (eqb k v) ∙ same (eqb k v) (eqb v k) (λ h. si v k (sym (is k v h))) (λ h. si k v (sym (is v k h))) }
 
 module _ (t : Trust) (d : ℕ) where
   -- a record of the level that is good within r

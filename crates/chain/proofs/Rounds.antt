@@ -1,6 +1,6 @@
 -- The good keys of a domain, round by round: a list that grows, and what is left to look at. Assumes nothing.
 use Prim.Native.Nat.{ℕ, zero, suc, _+_, _-_, _≤_, _<_}
-use mathlib.Core.Bool.{Bool, true, false, not, _&&_, _||_}
+use mathlib.Core.Bool.{Bool, true, false, not, _&&_, _||_, and-true, and-false, or-false}
 use mathlib.Core.List.{List, [], _∷_}
 use mathlib.Core.Logic.{_≢_}
 use mathlib.Core.Path.{_≡_, refl, sym, ap, ap₂, _∙_, subst}
@@ -59,9 +59,14 @@ module _ (t : Trust) (d : ℕ) (c : Certificate) where
   unfolding candidate
   candidate-elsewhere h = rw (ne-eqb (c .domain) d h)
 
-  pub candidate-here : c .domain ≡ d → (a b : Bool) → a ≡ trusted-root (t .seen) c → b ≡ link (t .seen) c → (a || b) ≡ candidate t d c
-  unfolding candidate
-  candidate-here h a b p q = rw (eq-eqb (c .domain) d h, p, q)
+  pub candidate-root : c .domain ≡ d → c .kind ≡ 0 → (b : Bool) → b ≡ trusted-root (t .seen) c → b ≡ candidate t d c
+  unfolding candidate link
+  candidate-root h k b e =
+      rw (eq-eqb (c .domain) d h, ne-eqb (c .kind) 1 (λ q. omega (arith, k, q))) (e ∙ sym (or-false (trusted-root (t .seen) c)))
+
+  pub candidate-issued : c .domain ≡ d → c .kind ≢ 0 → (b : Bool) → b ≡ link (t .seen) c → b ≡ candidate t d c
+  unfolding candidate trusted-root valid-root
+  candidate-issued h k b e = rw (eq-eqb (c .domain) d h, ne-eqb (c .kind) 0 k) e
 
 module _ (t : Trust) (d : ℕ) (f : Certificate → Bool) where
   -- what the slots from i on tell of f
@@ -121,20 +126,12 @@ module _ (t : Trust) (slots before : List ℕ) (size count v : ℕ) where
         ∙ inv
 
     pub round-skip : b ≡ false → (found l n || among reached slots i) ≡ among reached slots size
-    round-skip h = passed (eqb (c .key) v && b) (found l n) (among reached slots i) (among reached slots size) next (ap (λ x. eqb (c .key) v && x) h ∙ none (eqb (c .key) v))
-      where
-        none : (x : Bool) → (x && false) ≡ false
-        none true = refl
-        none false = refl
+    round-skip h = passed (eqb (c .key) v && b) (found l n) (among reached slots i) (among reached slots size) next (ap (λ x. eqb (c .key) v && x) h ∙ and-false (eqb (c .key) v))
 
     pub round-take : b ≡ true → n < length l → (found (set l n (c .key)) (n + 1) || among reached slots i) ≡ among reached slots size
     round-take h s =
         ap (λ x. x || among reached slots i) (among-more (λ x. eqb x v) l n (c .key) s)
-        ∙ taken (eqb (c .key) v) (found l n) (among reached slots i) (among reached slots size) (ap (λ x. found l n || (x || among reached slots i)) (sym (all (eqb (c .key) v)) ∙ ap (λ x. eqb (c .key) v && x) (sym h)) ∙ next)
-      where
-        all : (x : Bool) → (x && true) ≡ x
-        all true = refl
-        all false = refl
+        ∙ taken (eqb (c .key) v) (found l n) (among reached slots i) (among reached slots size) (ap (λ x. found l n || (x || among reached slots i)) (sym (and-true (eqb (c .key) v)) ∙ ap (λ x. eqb (c .key) v && x) (sym h)) ∙ next)
 
 -- ---- what a round says of good keys
 

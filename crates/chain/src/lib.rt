@@ -81,7 +81,10 @@ fn is_candidate(s: &[u8], domain: u8, c: Certificate) -> bool
     if c.domain != domain {
         return false;
     }
-    trusted_root(s, c) | is_link(s, c)
+    if c.kind == 0 {
+        return trusted_root(s, c);
+    }
+    is_link(s, c)
 }
 
 // Lists the slots that can be in a chain of this domain, and tells their number.

@@ -1,9 +1,9 @@
 -- The numbers that a configuration message lists, and those that it leaves 0. Assumes nothing.
 use Prim.Native.Nat.{ℕ, _+_, _≤_, _<_, zero-le}
-use mathlib.Core.Bool.{Bool, true, false}
+use mathlib.Core.Bool.{Bool, true, false, cond}
 use mathlib.Core.List.{List, _∷_}
 use mathlib.Core.Logic.{_≢_}
-use mathlib.Core.Path.{_≡_, sym, ap, _∙_}
+use mathlib.Core.Path.{_≡_, refl, sym, ap, _∙_}
 use native.Mathlib.Numerals.{add-one}
 use native.Mathlib.Omega.{arith}
 use borrow.Author.Tests.{ne-eqb}
@@ -11,8 +11,9 @@ use lib.Dec.{eqb}
 use lib.ListN.{length, getD, drop, drop-of-length-le, List·getD-eq-default}
 use lib.Seq.{length-take-le, getD-take, drop-cons}
 use Rattle.records.specs.declared.Event.{Event}
-use Rattle.rules.specs.Words.{all-zero}
+use Rattle.rules.specs.Words.{any, all-zero}
 use Rattle.rules.specs.Forms.{eight, listed}
+use Rattle.rules.proofs.Loops.{any-here, any-next, any-end}
 
 past-four : (n i : ℕ) → n ≤ i → i ≢ n → i ≢ n + 1 → i ≢ n + 2 → i ≢ n + 3 → n + 4 ≤ i
 past-four n i h a b c d = omega arith
@@ -56,3 +57,38 @@ module _ (l : List ℕ) (i : ℕ) (w : Bool) (inv : all-zero (drop i l) ≡ w) w
   pub zero-passes : length l ≤ i → true ≡ w
   unfolding all-zero
   zero-passes h = sym (ap all-zero (drop-of-length-le l h)) ∙ inv
+
+same-either-way : (b : Bool) (v : ℕ) → v ≡ cond b v v
+same-either-way true v = refl
+same-either-way false v = refl
+
+-- a loop that tells v once a number passes the test, and k so far: w is what it tells in the end
+module _ (l : List ℕ) (i : ℕ) (f : ℕ → Bool) (v k : ℕ) {w : ℕ} (inv : cond (any f (drop i l)) v k ≡ w) where
+  pub told-here : {x : ℕ} → i < length l → x ≡ getD l i 0 → f x ≡ true → cond (any f (drop (i + 1) l)) v v ≡ w
+  told-here h e t = sym (same-either-way (any f (drop (i + 1) l)) v) ∙ ap (λ b. cond b v k) (sym (any-here 0 l i f h (ap f (sym e) ∙ t))) ∙ inv
+
+  pub told-later : {x : ℕ} → i < length l → x ≡ getD l i 0 → f x ≡ false → cond (any f (drop (i + 1) l)) v k ≡ w
+  told-later h e t = ap (λ b. cond b v k) (sym (any-next 0 l i f h (ap f (sym e) ∙ t))) ∙ inv
+
+  pub told-all : length l ≤ i → k ≡ w
+  told-all h = ap (λ b. cond b v k) (sym (any-end 0 l i f h)) ∙ inv
+
+-- what is told of a list where a is whether one of it is unknown, b whether one is no third party root
+module _ (a b : Bool) {r : ℕ} where
+  pub told-unknown : r ≡ cond a 3 (cond b 12 0) → r ≡ 3 → a ≡ true
+  told-unknown q e = go a b q
+    where
+      go : (a b : Bool) → r ≡ cond a 3 (cond b 12 0) → a ≡ true
+      go true b q = refl
+      go false true q = absurd (omega arith)
+      go false false q = absurd (omega arith)
+
+  pub told-known : r ≡ cond a 3 (cond b 12 0) → r ≢ 3 → a ≡ false
+  told-known q n = go a q
+    where
+      go : (a : Bool) → r ≡ cond a 3 (cond b 12 0) → a ≡ false
+      go true q = absurd (n q)
+      go false q = refl
+
+  pub told-other : r ≡ cond a 3 (cond b 12 0) → a ≡ false → r ≡ cond b 12 0
+  told-other q e = q ∙ ap (λ a. cond a 3 (cond b 12 0)) e

@@ -1,16 +1,14 @@
 -- The record that an event names, by the slot where it is found. Assumes nothing.
 use Prim.Native.Nat.{ℕ, _≤_, _<_}
 use mathlib.Core.Bool.{true, false}
-use mathlib.Core.Path.{_≡_, refl, sym, ap, _∙_}
-use lib.ListN.{length, List·getD-eq-default}
-use native.Mathlib.Omega.{arith}
+use mathlib.Core.Path.{_≡_, refl}
+use lib.ListN.{length}
 use Rattle.records.specs.Phone.{Phone, no-certificate, no-executable, certificate-at, executable-at}
 use Rattle.records.specs.declared.Certificate.{Certificate}
 use Rattle.records.specs.declared.Executable.{Executable}
-use Rattle.rules.specs.ImageRules.{third-party-root}
 use Rattle.rules.specs.Codes.{has-id, is-executable, certificate-named, executable-named, certificate-known, executable-known}
 use Rattle.lookup.specs.Places.{first-place}
-use Rattle.lookup.proofs.Places.{place-none, place-some, place-named, place-find}
+use Rattle.lookup.proofs.Places.{place-none, place-some, place-named}
 
 module _ (p : Phone) (id : ℕ) {i : ℕ} where
   module _ (at : i ≡ first-place (has-id id) (p .trust .certificates)) where
@@ -26,12 +24,6 @@ module _ (p : Phone) (id : ℕ) {i : ℕ} where
       pub certificate-found : i < n → certificate-known p id ≡ true
       unfolding certificate-known
       certificate-found h = place-some (has-id id) (p .trust .certificates) at slots h
-
-      -- no certificate is a third party root where none is found
-      pub missing-no-root : n ≤ i → false ≡ third-party-root (certificate-named p id)
-      unfolding certificate-named
-      missing-no-root h =
-          ap third-party-root (sym (place-find (has-id id) no-certificate (p .trust .certificates) ∙ List·getD-eq-default (p .trust .certificates) no-certificate (omega arith)))
 
   module _ (at : i ≡ first-place (is-executable id) (p .executables)) where
     pub executable-here : {x : Executable} → x ≡ executable-at p i → x ≡ executable-named p id

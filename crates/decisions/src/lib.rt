@@ -482,49 +482,29 @@ pub fn mark_invalid(s: &[u8], e: Event) -> Plan
     Plan { code: 0, slot }
 }
 
-fn lists_unknown(s: &[u8], e: Event) -> bool
+// What stands against a message for the certificates that it lists: 3 where one is unknown, else 12 where one is no third party root.
+fn judge_listed(s: &[u8], e: Event) -> u8
     requires { ⌜ Framed (now s) ⌝ }
     requires { ⌜ e .fourth ≤ 8 ⌝ }
-    ensures { λ r. ⌜ r ≡ any (λ n. not (certificate-known (decode (now (s .entry))) n)) (listed e) ⌝ }
+    ensures { λ r. ⌜ r ≡ cond (any (λ n. not (certificate-known (decode (now (s .entry))) n)) (listed e)) 3 (cond (any (λ n. not (third-party-root (certificate-named (decode (now (s .entry))) n))) (listed e)) 12 0) ⌝ }
 {
     let n = e.fourth as usize;
+    let slots = image::certificate_slots(s);
+    let mut told: u8 = 0;
     let mut i: usize = 0;
     while i < n {
-        if image::certificate_slots(s) <= lookup::certificate_slot(s, listed_id(e, i)) {
-            return true;
-        }
+        let slot = lookup::certificate_slot(s, listed_id(e, i));
         i += 1;
-    }
-    false
-}
-
-// Whether the certificate of this id is a third party root.
-fn is_third_party_root(s: &[u8], id: u16) -> bool
-    requires { ⌜ Framed (now s) ⌝ }
-    ensures { λ r. ⌜ r ≡ third-party-root (certificate-named (decode (now (s .entry))) id) ⌝ }
-{
-    let slot = lookup::certificate_slot(s, id);
-    if image::certificate_slots(s) <= slot {
-        return false;
-    }
-    let c = image::certificate(s, slot);
-    (c.kind == 0) & (c.domain == 3)
-}
-
-fn lists_other(s: &[u8], e: Event) -> bool
-    requires { ⌜ Framed (now s) ⌝ }
-    requires { ⌜ e .fourth ≤ 8 ⌝ }
-    ensures { λ r. ⌜ r ≡ any (λ n. not (third-party-root (certificate-named (decode (now (s .entry))) n))) (listed e) ⌝ }
-{
-    let n = e.fourth as usize;
-    let mut i: usize = 0;
-    while i < n {
-        if !is_third_party_root(s, listed_id(e, i)) {
-            return true;
+        if slots <= slot {
+            return 3;
         }
-        i += 1;
+        let c = image::certificate(s, slot);
+        if (c.kind == 0) & (c.domain == 3) {
+            continue;
+        }
+        told = 12;
     }
-    false
+    told
 }
 
 // 9
@@ -536,16 +516,14 @@ pub fn message(s: &[u8], e: Event) -> u8
     if !message_form(e) {
         return 2;
     }
-    if lists_unknown(s, e) {
+    let told = judge_listed(s, e);
+    if told == 3 {
         return 3;
     }
     if !may_act(9, 0, e.actor) {
         return 4;
     }
-    if lists_other(s, e) {
-        return 12;
-    }
-    0
+    told
 }
 
 // 10

@@ -1,5 +1,5 @@
 -- Settling one domain after the other settles them all: an executable has one domain, and one that lost it has none. Assumes nothing.
-use Prim.Native.Nat.{ℕ, zero, suc, _≤_}
+use Prim.Native.Nat.{ℕ, zero, suc, _+_, _≤_, _<_}
 use mathlib.Core.Bool.{Bool, true, false, cond, not, _||_}
 use mathlib.Core.List.{List, [], _∷_, map, List·Memᴰ, List·Memᴰ·head, List·Memᴰ·tail}
 use mathlib.Core.Logic.{_≢_}
@@ -7,15 +7,17 @@ use mathlib.Core.Path.{_≡_, refl, sym, ap, ap₂, _∙_}
 use native.Mathlib.Omega.{arith}
 use borrow.Author.Tests.{eq-eqb, ne-eqb}
 use lib.Dec.{eqb}
-use lib.ListN.{length-map}
-use Rattle.records.specs.Phone.{Trust, Phone, decode, encode, with-executables, in-domain}
+use lib.ListN.{length, length-map}
+use Rattle.records.specs.Phone.{Trust, Phone, decode, encode, with-executables, in-domain, executable-at, put-executable}
 use Rattle.records.specs.Frame.{Framed}
 use Rattle.records.specs.declared.Executable.{Executable}
 use Rattle.rules.specs.Chains.{chains-to}
 use Rattle.rules.specs.Effects.{settled, settle}
 use Rattle.chain.specs.Keys.{chained-in}
 use Rattle.effects.proofs.Parts.{executables, says, framed-as}
-use Rattle.effects.specs.Sweeps.{settled-in, settle-in, Domains-known}
+use Rattle.effects.proofs.Sweeps.{Sweeping, sweep-goes-on, sweep-skips-to}
+use Rattle.effects.proofs.Fields.{settled-written, settled-skipped}
+use Rattle.effects.specs.Sweeps.{settled-in, settle-in, Next-unchained, Domains-known}
 
 module _ (t : Trust) where
   -- an executable of another domain stays as it is
@@ -90,13 +92,29 @@ turns-written s s₁ s₂ k e₁ e₂ e₃ =
     ∙ ap (λ p. encode (settle-in 3 (settle-in 2 p))) (says (settle-in 1 (decode s)) e₁)
     ∙ ap encode (by-domains (decode s) k)
 
--- ---- one executable, by what was asked of it
+-- ---- from one executable that does not chain to the next
 
-module _ (d : ℕ) (t : Trust) (x : Executable) (b : Bool) (e : b ≡ chained-in d t x) where
-  pub settled-keeps : b ≡ true → x .domain ≡ settled-in d t x .domain
-  unfolding settled-in
-  settled-keeps y = ap (λ b. cond b x (in-domain 0 x) .domain) (sym y ∙ e)
+module _ (d : ℕ) (s₀ : List ℕ) where
+  abbrev Settled : List ℕ → ℕ → ℕ → Type 0
+  Settled s slots i = Sweeping executables (settled-in d (decode s₀ .trust)) s₀ s slots i
 
-  pub settled-loses : b ≡ false → 0 ≡ settled-in d t x .domain
-  unfolding settled-in
-  settled-loses n = ap (λ b. cond b x (in-domain 0 x) .domain) (sym n ∙ e)
+  -- the executables before slot i are settled, and slot i does not chain
+  pub record Settling (s : List ℕ) (slots i : ℕ) : Type 0 where
+    pub swept : Settled s slots i
+    pub lost : i < slots → chained-in d (decode s₀ .trust) (executable-at (decode s) i) ≡ false
+
+  pub same-trust : {s : List ℕ} {slots i : ℕ} → Settled s slots i → decode s .trust ≡ decode s₀ .trust
+  same-trust z = ap (λ p. p .trust) (z .phone)
+
+  pub settling-next : {s : List ℕ} {slots : ℕ} (i r : ℕ) → Settled s slots i → Next-unchained d (decode s) i r → Settling s slots r
+  settling-next {s} {slots} i r z n =
+      record {
+        swept = sweep-skips-to executables (settled-in d (decode s₀ .trust)) i r (n .behind) (omega (arith, z .as-many, n .within)) (λ j lt le. settled-skipped d (decode s₀ .trust) refl (sym (told j true (n .passed j lt le))) refl) z;
+        lost = λ h. told r false (n .here (omega (arith, z .as-many, h)));
+      }
+    where
+      told : (j : ℕ) (b : Bool) → chained-in d (decode s .trust) (executable-at (decode s) j) ≡ b → chained-in d (decode s₀ .trust) (executable-at (decode s) j) ≡ b
+      told j b h = ap (λ t. chained-in d t (executable-at (decode s) j)) (sym (same-trust z)) ∙ h
+
+  pub settling-writes : {s s₁ : List ℕ} {slots i : ℕ} → Settling s slots i → i < slots → length s₁ ≡ length s → s₁ ≡ encode (put-executable i (in-domain 0 (executable-at (decode s) i)) (decode s)) → Settled s₁ slots (i + 1)
+  settling-writes z h e w = sweep-goes-on executables (settled-in d (decode s₀ .trust)) (z .swept) h e (settled-written d (decode s₀ .trust) refl (sym (z .lost h)) refl) w

@@ -17,14 +17,16 @@ use Rattle.effects.specs.Sweeps.{outgoing, retire, disables, settled-in}
 
 -- ---- x is what was read, and c or y what stands in the slot
 
-pub retire-written : (every : Bool) (operator : ℕ) {x c : Certificate} {m : ℕ} → m ≡ retire every operator x .mark → x ≡ c
-    → marked m c ≡ retire every operator c
-retire-written every operator {x} {c} e q =
-    ap (λ m. marked m c) (e ∙ ap (λ x. retire every operator x .mark) q) ∙ go (outgoing every operator c)
-  where
-    go : (b : Bool) → marked (cond b (marked 0 c) c .mark) c ≡ cond b (marked 0 c) c
-    go true = refl
-    go false = refl
+-- an operator root that has to go is marked invalid, and any other record is not touched
+module _ (every : Bool) (operator : ℕ) {x c : Certificate} (q : x ≡ c) {b : Bool} (e : b ≡ outgoing every operator x) where
+  retired-by : (y : Bool) → b ≡ y → cond y (marked 0 c) c ≡ retire every operator c
+  retired-by y h = ap (λ z. cond z (marked 0 c) c) (sym h ∙ e ∙ ap (outgoing every operator) q)
+
+  pub retire-written : b ≡ true → marked 0 c ≡ retire every operator c
+  retire-written h = retired-by true h
+
+  pub retire-skipped : b ≡ false → c ≡ retire every operator c
+  retire-skipped h = retired-by false h
 
 -- a third party root is written, and any other record is not
 module _ (e : Event) {x c : Certificate} (q : x ≡ c) where
@@ -44,14 +46,17 @@ module _ (e : Event) {x c : Certificate} (q : x ≡ c) where
   unfolding disables
   disables-none t = ap (disables e) (sym q) ∙ ap (λ b. b && eqb (x .enabled) 1 && not (eqb (enabled-by e x) 1)) t
 
-pub settled-written : (n : ℕ) {t u : Trust} {x y : Executable} {d : ℕ} → d ≡ settled-in n t x .domain → t ≡ u → x ≡ y → in-domain d y ≡ settled-in n u y
-unfolding settled-in
-settled-written n {t} {u} {x} {y} e p q =
-    ap (λ d. in-domain d y) (e ∙ ap (λ t. settled-in n t x .domain) p ∙ ap (λ x. settled-in n u x .domain) q) ∙ go (chained-in n u y)
-  where
-    go : (b : Bool) → in-domain (cond b y (in-domain 0 y) .domain) y ≡ cond b y (in-domain 0 y)
-    go true = refl
-    go false = refl
+-- an executable that does not chain loses its domain, and any other is not touched
+module _ (n : ℕ) (u : Trust) {x y : Executable} (q : x ≡ y) {b : Bool} (e : b ≡ chained-in n u x) where
+  settled-by : (z : Bool) → b ≡ z → cond z y (in-domain 0 y) ≡ settled-in n u y
+  unfolding settled-in
+  settled-by z h = ap (λ z. cond z y (in-domain 0 y)) (sym h ∙ e ∙ ap (chained-in n u) q)
+
+  pub settled-written : b ≡ false → in-domain 0 y ≡ settled-in n u y
+  settled-written h = settled-by false h
+
+  pub settled-skipped : b ≡ true → y ≡ settled-in n u y
+  settled-skipped h = settled-by true h
 
 pub chained-written : (t : Trust) {x y : Executable} {r : Chained} → r ≡ chain-of t (x .signing) → x ≡ y
     → in-domain (r .domain) y ≡ in-domain (chain-of t (y .signing) .domain) y

@@ -1,5 +1,5 @@
 -- A loop that writes f of each slot in its place: what it has done after i of them, in a list and in an image. Assumes nothing.
-use Prim.Native.Nat.{ℕ, zero, suc, _+_, _≤_, _<_}
+use Prim.Native.Nat.{ℕ, zero, suc, _+_, _-_, _≤_, _<_}
 use mathlib.Core.Bool.{Bool, false, _||_, or-false, or-assoc}
 use mathlib.Core.List.{List, [], _∷_, map}
 use mathlib.Core.Path.{_≡_, refl, sym, ap, _∙_, subst}
@@ -109,6 +109,15 @@ module _ {A : Type 0} (k : Part A) (f : A → A) where
   sweep-skips {s₀} {s} {slots} {i} z h e =
       sweep-goes-on z h refl e
       (z .framed .shaped ∙ ap encode (sym (k .put-same (decode s))) ∙ ap (λ l. encode (k .put l (decode s))) (sym (set-getD (k .slots (decode s)) i (k .none))))
+
+  -- nor to any slot before r
+  pub sweep-skips-to : {s₀ s : List ℕ} {slots : ℕ} (i r : ℕ) → i ≤ r → r ≤ slots → ((j : ℕ) → j < r → i ≤ j → getD (k .slots (decode s)) j (k .none) ≡ f (getD (k .slots (decode s)) j (k .none)))
+      → Sweeping k f s₀ s slots i → Sweeping k f s₀ s slots r
+  sweep-skips-to {s₀} {s} {slots} i r le few same z = go (r - i) i (omega arith) (omega arith) z
+    where
+      go : (n j : ℕ) → j + n ≡ r → i ≤ j → Sweeping k f s₀ s slots j → Sweeping k f s₀ s slots r
+      go zero j e h z = let q : j ≡ r = omega arith in subst (λ x. Sweeping k f s₀ s slots x) q z
+      go (suc n) j e h z = go n (j + 1) (omega arith) (omega arith) (sweep-skips z (omega arith) (same j (omega arith) h))
 
   pub sweep-said : {s₀ s : List ℕ} {slots i : ℕ} → Sweeping k f s₀ s slots i → slots ≤ i → decode s ≡ k .put (map f (k .slots (decode s₀))) (decode s₀)
   sweep-said {s₀} {s} {slots} {i} z h =

@@ -1,10 +1,11 @@
 -- What a loop over slots has done after i of them, and what it does to one and tells of it. Definitions only.
-use Prim.Native.Nat.{ℕ, _≤_}
-use mathlib.Core.Bool.{Bool, cond, not, _&&_, _||_}
+use Prim.Native.Nat.{ℕ, _≤_, _<_}
+use mathlib.Core.Bool.{Bool, true, false, cond, not, _&&_, _||_}
+use mathlib.Core.Path.{_≡_}
 use mathlib.Core.List.{List, _++_, map, List·Memᴰ}
 use lib.Dec.{eqb}
-use lib.ListN.{take, drop}
-use Rattle.records.specs.Phone.{Trust, Phone, with-certificates, with-executables, marked, in-domain}
+use lib.ListN.{length, take, drop}
+use Rattle.records.specs.Phone.{Trust, Phone, with-certificates, with-executables, marked, in-domain, executable-at}
 use Rattle.records.specs.declared.Certificate.{Certificate}
 use Rattle.records.specs.declared.Executable.{Executable}
 use Rattle.records.specs.declared.Event.{Event}
@@ -36,6 +37,13 @@ settled-in d t x = cond (chained-in d t x) x (in-domain 0 x)
 
 unfoldable pub settle-in : ℕ → Phone → Phone
 settle-in d p = with-executables (map (settled-in d (p .trust)) (p .executables)) p
+
+-- r is the first slot from `from` on whose executable does not chain to d though it has it, or the number of slots
+pub record Next-unchained (d : ℕ) (p : Phone) (from r : ℕ) : Type 0 where
+  pub behind : from ≤ r
+  pub within : r ≤ length (p .executables)
+  pub passed : (j : ℕ) → j < r → from ≤ j → chained-in d (p .trust) (executable-at p j) ≡ true
+  pub here : r < length (p .executables) → chained-in d (p .trust) (executable-at p r) ≡ false
 
 -- every executable has a domain from 0 to 3
 pub record Domains-known (p : Phone) : Type 0 where

@@ -9,7 +9,7 @@ ghost use mathlib.Core.Path.{_≡_};
 ghost use Prim.Native.Nat.{_≤_, _<_};
 ghost use lib.Dec.{eqb};
 ghost use lib.ListN.{length};
-ghost use Rattle.records.specs.Phone.{Trust, decode, encode, with-card, with-certificates, with-executables, executable-at};
+ghost use Rattle.records.specs.Phone.{decode, encode, with-card, with-certificates, with-executables, executable-at};
 ghost use Rattle.records.specs.Frame.{Framed};
 ghost use Rattle.rules.specs.Words.{any, fill};
 ghost use Rattle.rules.specs.Chains.{chain-of};
@@ -20,7 +20,7 @@ ghost use Rattle.rules.specs.Effects.{tick, card-rule, card-in, card-out, power
 ghost use Rattle.chain.specs.Keys.{Lists, good-key};
 ghost use Rattle.lookup.specs.Places.{first-place};
 ghost use Rattle.opening.specs.Opened.{Accepted-image};
-ghost use Rattle.effects.specs.Sweeps.{outgoing, retire, disables, settled-in, settle-in, Domains-known};
+ghost use Rattle.effects.specs.Sweeps.{outgoing, retire, disables, settle-in, Next-unchained, Domains-known};
 
 // ---- clock and card
 
@@ -32,16 +32,14 @@ pub fn tick(s: &mut [u8], e: Event)
     image::set_clock(s, e.key);
 }
 
-// The mark of c after the operator roots on the phone are marked invalid: every one, or those of another owner.
-fn retired_mark(c: Certificate, every: bool, operator: u32) -> u8
-    ensures { λ r. ⌜ r ≡ retire every operator c .mark ⌝ }
+// Whether c is an operator root on the phone that has to go: any, or one of another owner.
+fn is_outgoing(every: bool, operator: u32, c: Certificate) -> bool
+    ensures { λ r. ⌜ r ≡ outgoing every operator c ⌝ }
 {
-    if (c.kind == 0) & (c.domain == 1) & (c.place == 0) & (every | (c.owner != operator)) {
-        return 0;
-    }
-    c.mark
+    (c.kind == 0) & (c.domain == 1) & (c.place == 0) & (every | (c.owner != operator))
 }
 
+// The operator roots on the phone are marked invalid: every one, or those of another owner.
 fn retire(s: &mut [u8], every: bool, operator: u32)
     requires { ⌜ Framed (now s) ⌝ }
     ensures { λ _. ⌜ now (s .exit) ≡ encode (with-certificates (map (retire every operator) (decode (now (s .entry)) .trust .certificates)) (decode (now (s .entry)))) ⌝ }
@@ -49,8 +47,11 @@ fn retire(s: &mut [u8], every: bool, operator: u32)
     let slots = image::certificate_slots(s);
     let mut i: usize = 0;
     while i < slots {
-        let mark = retired_mark(image::certificate(s, i), every, operator);
-        image::set_mark(s, i, mark);
+        if !is_outgoing(every, operator, image::certificate(s, i)) {
+            i += 1;
+            continue;
+        }
+        image::set_mark(s, i, 0);
         i += 1;
     }
 }
@@ -288,17 +289,25 @@ pub fn withdraw(s: &mut [u8], e: Event, slot: usize)
 
 // ---- settling
 
-// The domain of x after the executables of one domain are settled, by the good keys of the domain.
-fn settled_domain(domain: u8, keys: &[u32], count: usize, x: Executable) -> u8
-    requires { ⌜ count ≤ length (now keys) ⌝ }
-    ensures { λ r. ⌜ ((t : Trust) → Lists (good-key 4 t domain) (now (keys .entry)) count → r ≡ settled-in domain t x .domain) ⌝ }
+// The first executable from a slot on that has the domain and does not chain to it, or the number of slots where there is none.
+fn next_unchained(s: &[u8], domain: u8, keys: &[u32], count: usize, from: usize) -> usize
+    requires { ⌜ Framed (now s) ⌝ }
+    requires { ⌜ (count ≤ length (now keys)) × (from ≤ length (decode (now s) .executables)) ⌝ }
+    requires { ⌜ Lists (good-key 4 (decode (now s) .trust) domain) (now keys) count ⌝ }
+    ensures { λ r. ⌜ Next-unchained domain (decode (now (s .entry))) from r ⌝ }
 {
-    if chain::is_chained(domain, keys, count, x) {
-        return x.domain;
+    let slots = image::executable_slots(s);
+    let mut i = from;
+    while i < slots {
+        if !chain::is_chained(domain, keys, count, image::executable(s, i)) {
+            return i;
+        }
+        i += 1;
     }
-    0
+    slots
 }
 
+// Takes the domain of each executable of one domain whose key is not among the good ones.
 fn settle_by(s: &mut [u8], domain: u8, keys: &[u32], count: usize)
     requires { ⌜ Framed (now s) ⌝ }
     requires { ⌜ count ≤ length (now keys) ⌝ }
@@ -306,11 +315,10 @@ fn settle_by(s: &mut [u8], domain: u8, keys: &[u32], count: usize)
     ensures { λ _. ⌜ now (s .exit) ≡ encode (settle-in domain (decode (now (s .entry)))) ⌝ }
 {
     let slots = image::executable_slots(s);
-    let mut i: usize = 0;
+    let mut i = next_unchained(s, domain, keys, count, 0);
     while i < slots {
-        let settled = settled_domain(domain, keys, count, image::executable(s, i));
-        image::set_domain(s, i, settled);
-        i += 1;
+        image::set_domain(s, i, 0);
+        i = next_unchained(s, domain, keys, count, i + 1);
     }
 }
 

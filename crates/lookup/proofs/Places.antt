@@ -88,5 +88,8 @@ module _ {A : Type 0} (t : A → Bool) where
     pub place-some : i < n → any t l ≡ true
     place-some h = place-any l ∙ lt-ltb (first-place t l) (length l) (omega arith)
 
+    pub place-told : ltb i n ≡ any t l
+    place-told = ap (λ k. ltb k n) first ∙ ap (ltb (first-place t l)) slots ∙ sym (place-any l)
+
     pub place-named : (d : A) {x : A} → x ≡ getD l i d → x ≡ find t d l
     place-named d e = e ∙ ap (λ k. getD l k d) first ∙ sym (place-find d l)

@@ -74,7 +74,7 @@ pub fn executable_room(s: &[u8], id: u16) -> Room
     Room { taken: false, slot }
 }
 
-// The same for a certificate, with whether a certificate of another domain has the key.
+// The same for a certificate, with whether a certificate of another domain has the key; where one has, the slot tells nothing.
 pub struct CertificateRoom {
     pub taken: bool,
     pub elsewhere: bool,
@@ -83,10 +83,9 @@ pub struct CertificateRoom {
 
 pub fn certificate_room(s: &[u8], id: u16, key: u32, domain: u8) -> CertificateRoom
     requires { ⌜ Framed (now s) ⌝ }
-    ensures { λ r. ⌜ (r .taken ≡ any (has-id id) (decode (now (s .entry)) .trust .certificates)) × (r .taken ≡ false → r .elsewhere ≡ any (λ c. eqb (c .key) key && not (eqb (c .domain) domain)) (decode (now (s .entry)) .trust .certificates)) × (r .taken ≡ false → r .slot ≡ first-place (has-id 0) (decode (now (s .entry)) .trust .certificates)) ⌝ }
+    ensures { λ r. ⌜ (r .taken ≡ any (has-id id) (decode (now (s .entry)) .trust .certificates)) × (r .taken ≡ false → r .elsewhere ≡ any (λ c. eqb (c .key) key && not (eqb (c .domain) domain)) (decode (now (s .entry)) .trust .certificates)) × (r .taken ≡ false → r .elsewhere ≡ false → r .slot ≡ first-place (has-id 0) (decode (now (s .entry)) .trust .certificates)) ⌝ }
 {
     let slots = image::certificate_slots(s);
-    let mut elsewhere = false;
     let mut slot = slots;
     let mut i = slots;
     while 0 < i {
@@ -99,7 +98,13 @@ pub fn certificate_room(s: &[u8], id: u16, key: u32, domain: u8) -> CertificateR
             };
         }
         let c = image::certificate(s, i);
-        elsewhere = ((c.key == key) & (c.domain != domain)) | elsewhere;
+        if (c.key == key) & (c.domain != domain) {
+            return CertificateRoom {
+                taken: certificate_slot(s, id) < slots,
+                elsewhere: true,
+                slot: 0,
+            };
+        }
         if !image::certificate_has_id(s, i, 0) {
             continue;
         }
@@ -107,7 +112,7 @@ pub fn certificate_room(s: &[u8], id: u16, key: u32, domain: u8) -> CertificateR
     }
     CertificateRoom {
         taken: false,
-        elsewhere,
+        elsewhere: false,
         slot,
     }
 }

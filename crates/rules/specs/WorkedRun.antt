@@ -149,3 +149,19 @@ chains-image-accepted = refl
 pub boundaries-hold : map heard boundaries ≡ map (λ b. b .expected) boundaries
 unfolding computing
 boundaries-hold = refl
+
+-- ---- a trap that neither the run nor the boundaries meet
+
+-- executable 1 is verified, its root is marked invalid and valid again, and it asks
+abbrev pub key-comes-back : List (List ℕ)
+key-comes-back =
+    verify-1
+    ∷ bytes 24 0x08_04_0001_0000_00_00_00000000_00000000_00000000_00000000
+    ∷ bytes 24 0x07_04_0001_0000_00_00_00000000_00000000_00000000_00000000
+    ∷ bytes 24 0x0f_00_0001_0000_00_00_00000000_00000000_00000000_00000000
+    ∷ []
+
+-- "Re-trusting an executable when its key comes back, without verify": it stays without a domain
+pub stays-untrusted : answers chains-image key-comes-back ≡ (told 0 3 4 ∷ told 0 0 0 ∷ told 0 0 0 ∷ told 15 0 0 ∷ [])
+unfolding computing
+stays-untrusted = refl

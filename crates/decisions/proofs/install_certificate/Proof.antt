@@ -45,15 +45,16 @@ past-5 : (c : tie.Else5) {r : ℕ} → Past 5 (c .before .before .before .before
 unfolding certificate-known
 past-5 c g = past-4 (c .before .before .before) (next (sym (c .before .certificate-room .ensures .0) ∙ c .if5 .left) g)
 
--- where the id is new, the sweep tells of the key too, and the slot is the lowest free one
+-- where the id is new, the sweep tells of the key too
 elsewhere : (c : tie.Else5) → let a = c .before .before .before .before .before .before .before .before .before .before .before .before .before .before .args in c .before .certificate-room .result .elsewhere ≡ any (λ x. eqb (x .key) (a .e .key) && not (eqb (x .domain) (a .e .fourth))) (decode (a .s .now) .trust .certificates)
 elsewhere c = c .before .certificate-room .ensures .1 (c .if5 .left)
 
-free : (c : tie.Else5) → c .before .certificate-room .result .slot ≡ first-place (has-id 0) (decode (c .before .before .before .before .before .before .before .before .before .before .before .before .before .before .args .s .now) .trust .certificates)
-free c = c .before .certificate-room .ensures .2 (c .if5 .left)
-
 past-6 : (c : tie.Else6) {r : ℕ} → Past 6 (c .before .before .before .before .before .before .before .before .before .before .before .before) r
 past-6 c g = past-5 (c .before) (next (sym (elsewhere (c .before)) ∙ c .if6 .left) g)
+
+-- and where no other domain has the key, the slot is the lowest free one
+free : (c : tie.Else6) → c .before .before .certificate-room .result .slot ≡ first-place (has-id 0) (decode (c .before .before .before .before .before .before .before .before .before .before .before .before .before .before .before .args .s .now) .trust .certificates)
+free c = c .before .before .certificate-room .ensures .2 (c .before .if5 .left) (c .if6 .left)
 
 past-7 : (c : tie.Else7) {r : ℕ} → Past 7 (c .before .before .before .before .before .before .before .before .before .before .before .before .before .before) r
 past-7 c g = past-6 (c .before .before) (next (sym (c .before .of-other-card .ensures) ∙ c .if7 .left) g)
@@ -112,13 +113,13 @@ returns-7 c = refused (omega arith) (past-6 (c .before .before) (here (sym (c .b
 returns-8 : tie.Need-returns-8
 returns-8 c =
     refused (omega arith) (past-7 (c .before)
-    (here (ap not (place-none _ _ (free (c .before .before .before .before)) (c .before .before .before .before .before .before .certificate-slots .ensures .0) (c .if8 .taken)))))
+    (here (ap not (place-none _ _ (free (c .before .before .before)) (c .before .before .before .before .before .before .certificate-slots .ensures .0) (c .if8 .taken)))))
 
 returns-9 : tie.Need-returns-9
 returns-9 c =
-    done (free (c .before .before .before .before)) (omega arith)
+    done (free (c .before .before .before)) (omega arith)
     (past-7 (c .before)
-    (next (ap not (place-some _ _ (free (c .before .before .before .before)) (c .before .before .before .before .before .before .certificate-slots .ensures .0) (c .if8 .left))) none))
+    (next (ap not (place-some _ _ (free (c .before .before .before)) (c .before .before .before .before .before .before .certificate-slots .ensures .0) (c .if8 .left))) none))
 
 pub install-certificate-spec : {M : Type 1} → statement M
 install-certificate-spec =

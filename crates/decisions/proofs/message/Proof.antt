@@ -1,13 +1,17 @@
 use Prim.Native.Nat.{ℕ, _≤_}
-use mathlib.Core.Path.{_≡_, sym, _∙_}
+use mathlib.Core.Bool.{Bool, false, not}
+use mathlib.Core.Path.{_≡_}
 use native.Mathlib.Omega.{arith}
 use lib.ListN.{drop}
 use Rattle.records.specs.Phone.{decode}
 use Rattle.rules.specs.Forms.{with-kind, listed}
-use Rattle.rules.specs.Codes.{code-of}
-use Rattle.decisions.proofs.Rows.{Gives, none, here, next, says}
+use Rattle.rules.specs.Words.{any, first}
+use Rattle.rules.specs.ImageRules.{third-party-root}
+use Rattle.rules.specs.Codes.{certificate-named, certificate-known, code-of}
+use Rattle.decisions.proofs.Rows.{Gives, rest, here, next, says}
 use Rattle.decisions.proofs.Codes.{message-rows, message-told}
 use Rattle.decisions.proofs.Forms.{message-listed}
+use Rattle.decisions.proofs.Listed.{told-unknown, told-known, told-other}
 use borrow.Author.Needs.{needs}
 use Rattle.decisions.proofs.message.Statement.{statement}
 use Rattle.decisions.proofs.message.Tie as tie
@@ -31,8 +35,21 @@ told c g = message-told _ _ (omega arith) g
 past-1 : (c : tie.Else1) {r : ℕ} → Past 1 (c .before .before .before) r
 past-1 c g = told (c .before .before .before) (next (says (c .before .message-form .ensures _) (c .if1 .left)) g)
 
+-- whether one that is listed is unknown, and whether one is no third party root
+abbrev unknown : tie.Start → Bool
+unknown c = any (λ n. not (certificate-known (decode (c .args .s .now)) n)) (listed (c .args .e))
+
+abbrev other : tie.Start → Bool
+other c = any (λ n. not (third-party-root (certificate-named (decode (c .args .s .now)) n))) (listed (c .args .e))
+
+-- every one is known
+known : (c : tie.Else2) → unknown (c .before .before .before .before .before) ≡ false
+known c =
+    let a = c .before .before .before .before .before in
+    told-known (unknown a) (other a) (c .before .judge-listed .ensures) (c .if2 .left)
+
 past-2 : (c : tie.Else2) {r : ℕ} → Past 2 (c .before .before .before .before .before) r
-past-2 c g = past-1 (c .before .before) (next (sym (c .before .lists-unknown .ensures) ∙ c .if2 .left) g)
+past-2 c g = past-1 (c .before .before) (next (known c) g)
 
 past-3 : (c : tie.Else3) {r : ℕ} → Past 3 (c .before .before .before .before .before .before .before) r
 past-3 c g = past-2 (c .before .before) (next (says (c .before .may-act .ensures) (c .if3 .left)) g)
@@ -43,11 +60,13 @@ message-form-requires c κs = search needs
 returns : tie.Need-returns
 returns c = (told (c .before .before .before) (here (says (c .before .message-form .ensures _) (c .if1 .taken))), λ z. omega arith)
 
-lists-unknown-requires : tie.Need-lists-unknown-requires
-lists-unknown-requires c κs = (c .before .before .before .pre .0 .framed, few c)
+judge-listed-requires : tie.Need-judge-listed-requires
+judge-listed-requires c κs = (c .before .before .before .pre .0 .framed, few c)
 
 returns-2 : tie.Need-returns-2
-returns-2 c = (past-1 (c .before .before) (here (sym (c .before .lists-unknown .ensures) ∙ c .if2 .taken)), λ z. few (c .before .before))
+returns-2 c =
+    let a = c .before .before .before .before .before in
+    (past-1 (c .before .before) (here (told-unknown (unknown a) (other a) (c .before .judge-listed .ensures) (c .if2 .taken))), λ z. few (c .before .before))
 
 may-act-requires : tie.Need-may-act-requires
 may-act-requires c κs = search needs
@@ -55,14 +74,11 @@ may-act-requires c κs = search needs
 returns-3 : tie.Need-returns-3
 returns-3 c = (past-2 (c .before .before) (here (says (c .before .may-act .ensures) (c .if3 .taken))), λ z. few (c .before .before .before .before))
 
-lists-other-requires : tie.Need-lists-other-requires
-lists-other-requires c κs = (c .before .before .before .before .before .before .before .pre .0 .framed, few (c .before .before .before .before))
-
 returns-4 : tie.Need-returns-4
-returns-4 c = (past-3 (c .before .before) (here (sym (c .before .lists-other .ensures) ∙ c .if4 .taken)), λ z. few (c .before .before .before .before .before .before))
-
-returns-5 : tie.Need-returns-5
-returns-5 c = (past-3 (c .before .before) (next (sym (c .before .lists-other .ensures) ∙ c .if4 .left) none), λ z. few (c .before .before .before .before .before .before))
+unfolding first
+returns-4 c =
+    let a = c .before .before .before .before .before .before .before in
+    (past-3 c (rest (told-other (unknown a) (other a) (c .before .before .before .judge-listed .ensures) (known (c .before .before)))), λ z. few (c .before .before .before .before))
 
 pub message-spec : {M : Type 1} → statement M
 message-spec =
@@ -70,10 +86,8 @@ message-spec =
     (tie.spec
     message-form-requires
     returns
-    lists-unknown-requires
+    judge-listed-requires
     returns-2
     may-act-requires
     returns-3
-    lists-other-requires
-    returns-4
-    returns-5)
+    returns-4)

@@ -1,10 +1,11 @@
 use Prim.Native.Nat.{_-_}
 use native.Mathlib.Omega.{arith}
+use borrow.Author.Tests.{not-true, not-false}
 use borrow.Author.Needs.{needs}
 use Rattle.effects.specs.Sweeps.{retire}
 use Rattle.effects.proofs.Parts.{certificates}
-use Rattle.effects.proofs.Sweeps.{Sweeping, sweep-starts, sweep-goes-on, sweep-ends}
-use Rattle.effects.proofs.Fields.{retire-written}
+use Rattle.effects.proofs.Sweeps.{Sweeping, sweep-starts, sweep-goes-on, sweep-skips, sweep-ends}
+use Rattle.effects.proofs.Fields.{retire-written, retire-skipped}
 use Rattle.effects.proofs.retire.Statement.{statement}
 use Rattle.effects.proofs.retire.Tie as tie
 
@@ -23,11 +24,8 @@ loop-holds c = sweep-starts certificates _ (c .before .before .before .pre) (c .
 certificate-requires : tie.Need-certificate-requires Inv-loop μ-loop
 certificate-requires c κs = search needs
 
-retired-mark-requires : tie.Need-retired-mark-requires Inv-loop μ-loop
-retired-mark-requires c κs = search needs
-
-set-mark-requires : tie.Need-set-mark-requires Inv-loop μ-loop
-set-mark-requires c κs = search needs
+is-outgoing-requires : tie.Need-is-outgoing-requires Inv-loop μ-loop
+is-outgoing-requires c κs = search needs
 
 add-i : tie.Need-add-i Inv-loop μ-loop
 add-i c = search needs
@@ -37,17 +35,32 @@ loop-less c = search needs
 
 loop-again : tie.Need-loop-again Inv-loop μ-loop
 loop-again c =
-    let z = c .before .before .before .before .before .before .before .before .before .before .before .before in
-    sweep-goes-on certificates _ (c .before .before .before .before .before .before .before .before .loop .inv) (omega arith) (search needs)
-    (retire-written (z .args .every) (z .args .operator) (c .before .before .before .before .retired-mark .ensures) (c .before .before .before .before .before .certificate .ensures))
+    let z = c .before .before .before .before .before .before .before .before .before in
+    let v = c .before .before .before .before .before .loop in
+    sweep-skips certificates _ (v .inv) (omega arith) (retire-skipped (z .args .every) (z .args .operator) (c .before .before .certificate .ensures) (c .before .is-outgoing .ensures) (not-true _ (c .if1 .taken)))
+
+set-mark-requires : tie.Need-set-mark-requires Inv-loop μ-loop
+set-mark-requires c κs = search needs
+
+add-i-2 : tie.Need-add-i-2 Inv-loop μ-loop
+add-i-2 c = search needs
+
+loop-less-2 : tie.Need-loop-less-2 Inv-loop μ-loop
+loop-less-2 c = search needs
+
+loop-again-2 : tie.Need-loop-again-2 Inv-loop μ-loop
+loop-again-2 c =
+    let z = c .before .before .before .before .before .before .before .before .before .before .before .before .before in
+    let v = c .before .before .before .before .before .before .before .before .before .loop in
+    sweep-goes-on certificates _ (v .inv) (omega arith) (search needs)
+    (retire-written (z .args .every) (z .args .operator) (c .before .before .before .before .before .before .certificate .ensures) (c .before .before .before .before .before .is-outgoing .ensures) (not-false _ (c .before .before .before .before .if1 .left)))
     (c .before .before .set-mark .ensures)
 
 same-length : tie.Need-same-length Inv-loop μ-loop
 same-length c = search needs
 
 returns : tie.Need-returns Inv-loop μ-loop
-returns c =
-    sweep-ends certificates _ (c .before .loop .inv) (omega arith)
+returns c = sweep-ends certificates _ (c .before .loop .inv) (omega arith)
 
 pub retire-spec : {M : Type 1} → statement M
 retire-spec =
@@ -58,10 +71,13 @@ retire-spec =
     certificate-slots-requires
     loop-holds
     certificate-requires
-    retired-mark-requires
-    set-mark-requires
+    is-outgoing-requires
     add-i
     loop-less
     loop-again
+    set-mark-requires
+    add-i-2
+    loop-less-2
+    loop-again-2
     same-length
     returns)

@@ -2,7 +2,7 @@ use borrow.Author.Needs.{needs}
 use borrow.Author.Tests.{not-true, not-false}
 use native.Mathlib.Omega.{arith}
 use Prim.Native.Nat.{ℕ, _+_, _≤_, _-_}
-use mathlib.Core.Bool.{Bool, false, not, _&&_, _||_, true≢false}
+use mathlib.Core.Bool.{Bool, false, not, _&&_, true≢false}
 use mathlib.Core.Path.{_≡_, sym, ap, _∙_}
 use lib.Dec.{eqb}
 use lib.ListN.{length, drop}
@@ -12,7 +12,7 @@ use Rattle.rules.specs.Words.{any}
 use Rattle.rules.specs.Codes.{has-id}
 use Rattle.rules.proofs.Loops.{any-back, any-back-done, any-end}
 use Rattle.lookup.specs.Places.{first-place}
-use Rattle.lookup.proofs.Places.{place-back-here, place-back, place-back-done, place-back-end, somewhere}
+use Rattle.lookup.proofs.Places.{place-back-here, place-back, place-back-done, place-back-end, place-told, somewhere}
 use Rattle.lookup.proofs.certificate_room.Statement.{statement}
 use Rattle.lookup.proofs.certificate_room.Tie as tie
 
@@ -20,15 +20,15 @@ abbrev in-another : ℕ → ℕ → Certificate → Bool
 in-another key domain x = eqb (x .key) key && not (eqb (x .domain) domain)
 
 abbrev Inv-loop : tie.InvT-loop
-Inv-loop s id key domain slots elsewhere₀ slot₀ i₀ elsewhere slot i =
+Inv-loop s id key domain slots slot₀ i₀ slot i =
     (i ≤ slots)
     × (slots ≡ length (decode s .trust .certificates))
     × (false ≡ any (has-id id) (drop i (decode s .trust .certificates)))
-    × (elsewhere ≡ any (in-another key domain) (drop i (decode s .trust .certificates)))
+    × (false ≡ any (in-another key domain) (drop i (decode s .trust .certificates)))
     × (slot ≡ i + first-place (has-id 0) (drop i (decode s .trust .certificates)))
 
 abbrev μ-loop : tie.MeasureT-loop
-μ-loop s id key domain slots elsewhere₀ slot₀ i₀ elsewhere slot i = i
+μ-loop s id key domain slots slot₀ i₀ slot i = i
 
 certificate-slots-requires : tie.Need-certificate-slots-requires Inv-loop μ-loop
 certificate-slots-requires c κs = search needs
@@ -50,6 +50,18 @@ returns c =
 certificate-requires : tie.Need-certificate-requires Inv-loop μ-loop
 certificate-requires c κs = search needs
 
+certificate-slot-requires : tie.Need-certificate-slot-requires Inv-loop μ-loop
+certificate-slot-requires c κs = search needs
+
+returns-2 : tie.Need-returns-2 Inv-loop μ-loop
+returns-2 c =
+    let a = c .before .before .before .before .before .before .before .before .before .before .before .args in
+    let v = c .before .before .before .before .before .before .before .before .loop in (
+      place-told _ _ (c .certificate-slot .ensures) (v .inv .1),
+      λ _. sym (somewhere (in-another (a .key) (a .domain)) no-certificate _ (v .i - 1) (omega arith) (ap (in-another (a .key) (a .domain)) (sym (c .before .before .before .before .certificate .ensures)) ∙ c .before .if2 .taken)),
+      λ _ e. absurd (true≢false e),
+    )
+
 certificate-has-id-requires-2 : tie.Need-certificate-has-id-requires-2 Inv-loop μ-loop
 certificate-has-id-requires-2 c κs = (search needs, omega arith)
 
@@ -59,24 +71,24 @@ kept c =
     let v = c .before .before .before .loop in
     any-back no-certificate _ (v .i - 1) _ false false {j = v .i} (v .inv .2) (omega arith) (omega arith) (sym (c .if1 .left) ∙ c .before .certificate-has-id .ensures)
 
--- with this slot, whether a slot from it on has the key in another domain
-joined : (c : tie.After-certificate Inv-loop μ-loop) → let a = c .before .before .before .before .before .before .before .args in let v = c .before .before .before .before .loop in (in-another (a .key) (a .domain) (c .certificate .result) || v .elsewhere) ≡ any (in-another (a .key) (a .domain)) (drop (v .i - 1) (decode (a .s .now) .trust .certificates))
-joined c =
-    let a = c .before .before .before .before .before .before .before .args in
-    let v = c .before .before .before .before .loop in
-    any-back no-certificate _ (v .i - 1) (in-another (a .key) (a .domain)) (v .elsewhere) _ {j = v .i} (v .inv .3) (omega arith) (omega arith) (ap (in-another (a .key) (a .domain)) (c .certificate .ensures))
+-- and none has the key in another domain
+apart : (c : tie.Else2 Inv-loop μ-loop) → let a = c .before .before .before .before .before .before .before .before .before .before .args in false ≡ any (in-another (a .key) (a .domain)) (drop (c .before .before .before .before .before .before .before .loop .i - 1) (decode (a .s .now) .trust .certificates))
+apart c =
+    let a = c .before .before .before .before .before .before .before .before .before .before .args in
+    let v = c .before .before .before .before .before .before .before .loop in
+    any-back no-certificate _ (v .i - 1) (in-another (a .key) (a .domain)) false false {j = v .i} (v .inv .3) (omega arith) (omega arith) (sym (c .if2 .left) ∙ ap (in-another (a .key) (a .domain)) (c .before .before .before .certificate .ensures))
 
 loop-less : tie.Need-loop-less Inv-loop μ-loop
 loop-less c = search needs
 
 loop-again : tie.Need-loop-again Inv-loop μ-loop
 loop-again c =
-    let v = c .before .before .before .before .before .before .before .before .loop in (
+    let v = c .before .before .before .before .before .before .before .before .before .loop in (
       omega arith,
       search needs,
-      kept (c .before .before .before .before .before),
-      joined (c .before .before .before .before),
-      place-back _ no-certificate _ (v .i - 1) (v .inv .4) (omega arith) (omega arith) (sym (c .before .certificate-has-id2 .ensures) ∙ not-true _ (c .if2 .taken)),
+      kept (c .before .before .before .before .before .before),
+      apart (c .before .before),
+      place-back _ no-certificate _ (v .i - 1) (v .inv .4) (omega arith) (omega arith) (sym (c .before .certificate-has-id2 .ensures) ∙ not-true _ (c .if3 .taken)),
     )
 
 loop-less-2 : tie.Need-loop-less-2 Inv-loop μ-loop
@@ -84,18 +96,18 @@ loop-less-2 c = search needs
 
 loop-again-2 : tie.Need-loop-again-2 Inv-loop μ-loop
 loop-again-2 c =
-    let v = c .before .before .before .before .before .before .before .before .loop in (
+    let v = c .before .before .before .before .before .before .before .before .before .loop in (
       omega arith,
       search needs,
-      kept (c .before .before .before .before .before),
-      joined (c .before .before .before .before),
-      place-back-here _ no-certificate _ (v .i - 1) (omega arith) (sym (c .before .certificate-has-id2 .ensures) ∙ not-false _ (c .if2 .left)),
+      kept (c .before .before .before .before .before .before),
+      apart (c .before .before),
+      place-back-here _ no-certificate _ (v .i - 1) (omega arith) (sym (c .before .certificate-has-id2 .ensures) ∙ not-false _ (c .if3 .left)),
     )
 
-returns-2 : tie.Need-returns-2 Inv-loop μ-loop
-returns-2 c =
+returns-3 : tie.Need-returns-3 Inv-loop μ-loop
+returns-3 c =
     let v = c .before .loop in
-    (any-back-done no-certificate _ (v .i) _ (v .inv .2) (omega arith), λ _. any-back-done no-certificate _ (v .i) _ (v .inv .3) (omega arith), λ _. place-back-done _ no-certificate _ (v .i) (v .inv .4) (omega arith))
+    (any-back-done no-certificate _ (v .i) _ (v .inv .2) (omega arith), λ _. any-back-done no-certificate _ (v .i) _ (v .inv .3) (omega arith), λ _ _. place-back-done _ no-certificate _ (v .i) (v .inv .4) (omega arith))
 
 pub certificate-room-spec : {M : Type 1} → statement M
 certificate-room-spec =
@@ -109,9 +121,11 @@ certificate-room-spec =
     certificate-has-id-requires
     returns
     certificate-requires
+    certificate-slot-requires
+    returns-2
     certificate-has-id-requires-2
     loop-less
     loop-again
     loop-less-2
     loop-again-2
-    returns-2)
+    returns-3)
