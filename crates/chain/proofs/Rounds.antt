@@ -1,24 +1,26 @@
 -- The good keys of a domain, round by round: a list that grows, and what is left to look at. Assumes nothing.
 use Prim.Native.Nat.{ℕ, zero, suc, _+_, _-_, _≤_, _<_}
-use mathlib.Core.Bool.{Bool, true, false, not, _&&_, _||_, and-true, and-false, or-false}
-use mathlib.Core.List.{List, [], _∷_}
-use mathlib.Core.Logic.{_≢_}
+use mathlib.Core.Bool.{Bool, true, false, not, _&&_, _||_, and-true, and-false, or-false, false≢true}
+use mathlib.Core.List.{List, [], _∷_, List·Memᴰ}
+use mathlib.Core.Logic.{_≢_, _⊎_, inl, inr}
 use mathlib.Core.Path.{_≡_, refl, sym, ap, ap₂, _∙_, subst}
 use native.Mathlib.Omega.{arith}
 use native.Mathlib.Numerals.{add-one}
 use borrow.Author.Tests.{eq-eqb, ne-eqb}
-use lib.Dec.{T, eqb}
+use lib.Dec.{T, eqb, ltb, ltb→lt}
 use lib.ListN.{length, getD, set, drop}
 use lib.Seq.{drop-cons}
 use Rattle.records.specs.Phone.{Trust, no-certificate}
 use Rattle.records.specs.declared.Certificate.{Certificate}
 use Rattle.records.specs.declared.Executable.{Executable}
 use Rattle.rules.specs.Words.{any}
-use Rattle.rules.specs.Chains.{trusted-root, link, valid-root, serves, good, within, chains-to}
-use Rattle.rules.proofs.Tests.{tests, is, si, tnsi}
+use Rattle.rules.specs.Chains.{present, in-date, trusted-root, link, valid-root, serves, good, within, chains-to}
+use Rattle.rules.proofs.Tests.{tests, is, tnsi, and-l, and-r, or-i, or-cases}
+use Rattle.rules.proofs.Lists.{any-out, any-in}
 use Rattle.rules.proofs.Loops.{any-end}
 use Rattle.rules.proofs.Slots.{any-not}
 use Rattle.chain.specs.Keys.{slot, among, Lists, good-key, chained-in, candidate, Candidates}
+use Rattle.chain.proofs.Good.{same}
 use Rattle.chain.proofs.Among.{among-more, among-first, among-none}
 
 -- ---- what is listed, a, and what is left, of which b is the first: together they tell w
@@ -58,6 +60,18 @@ module _ (t : Trust) (d : ℕ) (c : Certificate) where
   pub candidate-elsewhere : c .domain ≢ d → false ≡ candidate t d c
   unfolding candidate
   candidate-elsewhere h = rw (ne-eqb (c .domain) d h)
+
+  pub candidate-absent : present (t .seen) c ≡ false → false ≡ candidate t d c
+  unfolding candidate trusted-root link
+  candidate-absent h = none (eqb (c .domain) d) (valid-root (t .seen .clock) c && eqb (c .enabled) 1) (eqb (c .kind) 1 && in-date (t .seen .clock) c) (present (t .seen) c) h
+    where
+      none : (a r l p : Bool) → p ≡ false → false ≡ (a && ((r && p) || (l && p)))
+      none a r l true h = absurd (false≢true (sym h))
+      none true true true false h = refl
+      none true true false false h = refl
+      none true false true false h = refl
+      none true false false false h = refl
+      none false r l false h = refl
 
   pub candidate-root : c .domain ≡ d → c .kind ≡ 0 → (b : Bool) → b ≡ trusted-root (t .seen) c → b ≡ candidate t d c
   unfolding candidate link
@@ -200,8 +214,44 @@ round-keys n d t slots before after size count m le k b h =
       at = λ v. h v ∙ k .at (λ c. eqb (c .key) v && (eqb (c .kind) 0 || among (λ x. eqb x (c .verifying)) before count)) ∙ any-same (λ c. candidate t d c && (eqb (c .key) v && (eqb (c .kind) 0 || among (λ x. eqb x (c .verifying)) before count))) (serves (good (suc n) t) d v) (t .certificates) (λ c. good-one n t d (λ v. among (λ x. eqb x v) before count) (b .at) c v);
     }
 
+-- where nothing is good within m + 1 links there is no root, and nothing is good within more
+keys-end : (m n : ℕ) → suc m ≡ n → (t : Trust) (d : ℕ) (before after : List ℕ) (count : ℕ) → count ≡ 0 → Lists (good-key n t d) before count → Lists (good-key (suc n) t d) after 0
+unfolding good-key serves good
+keys-end m n e t d before after count z l =
+    record { few = omega arith; at = λ v. among-none (λ x. eqb x v) after 0 refl ∙ same false (good-key (suc n) t d v) (λ h. absurd h) (none v) }
+  where
+    nothing : (v : ℕ) → T (good-key n t d v) → ⊥
+    nothing v h = subst T (sym (l .at v) ∙ among-none (λ x. eqb x v) before count z) h
+
+    root : (c : Certificate) → T (trusted-root (t .seen) c) → T (good n t c)
+    root c h = subst (λ k. T (good k t c)) e (or-i (trusted-root (t .seen) c) (link (t .seen) c && any (serves (good m t) (c .domain) (c .verifying)) (t .certificates)) h)
+
+    none : (v : ℕ) → T (good-key (suc n) t d v) → ⊥
+    none v h =
+        let s = any-out (serves (good (suc n) t) d v) (t .certificates) h in
+        let c = s .it in
+        let w : T (serves (good (suc n) t) d v c) = s .passes in
+        let o : T (eqb (c .domain) d) = search tests in
+        let k : T (eqb (c .key) v) = search tests in
+        let g : T (good (suc n) t c) = search tests in
+        go c (s .mem) o k (or-cases (trusted-root (t .seen) c) (link (t .seen) c && any (serves (good n t) (c .domain) (c .verifying)) (t .certificates)) g)
+      where
+        go : (c : Certificate) → List·Memᴰ c (t .certificates) → T (eqb (c .domain) d) → T (eqb (c .key) v) → T (trusted-root (t .seen) c) ⊎ T (link (t .seen) c && any (serves (good n t) (c .domain) (c .verifying)) (t .certificates)) → ⊥
+        go c m o k (inl r) = let g : T (good n t c) = root c r in nothing v (any-in (serves (good n t) d v) m (search tests))
+        go c m o k (inr r) = let a : T (any (serves (good n t) (c .domain) (c .verifying)) (t .certificates)) = search tests in nothing (c .verifying) (subst (λ x. T (any (serves (good n t) x (c .verifying)) (t .certificates))) (is (c .domain) d o) a)
+
 pub keys-by : (m n : ℕ) → m ≡ n → (t : Trust) (d : ℕ) (l : List ℕ) (k : ℕ) → Lists (good-key m t d) l k → Lists (good-key n t d) l k
 keys-by m n e t d l k h = subst (λ x. Lists (good-key x t d) l k) e h
+
+-- as the search tests it
+pub keys-ended : (m n : ℕ) → m ≡ n - 1 → (t : Trust) (d : ℕ) (before after : List ℕ) (count : ℕ) → (eqb count 0 && ltb 1 n) ≡ true → Lists (good-key m t d) before count → Lists (good-key n t d) after 0
+keys-ended m n e t d before after count h l =
+    let w : T (eqb count 0 && ltb 1 n) = subst T (sym h) tt in
+    let z = is count 0 (and-l (eqb count 0) (ltb 1 n) w) in
+    let o = ltb→lt 1 n (and-r (eqb count 0) (ltb 1 n) w) in
+    let q : suc (n - 2) ≡ m = omega (arith, o, e) in
+    let r : suc m ≡ n = omega (arith, o, e) in
+    keys-by (suc m) n r t d after 0 (keys-end (n - 2) m q t d before after count z l)
 
 -- ---- one slot
 

@@ -81,6 +81,9 @@ fn is_candidate(s: &[u8], domain: u8, c: Certificate) -> bool
     if c.domain != domain {
         return false;
     }
+    if !is_present(s, c) {
+        return false;
+    }
     if c.kind == 0 {
         return trusted_root(s, c);
     }
@@ -161,6 +164,10 @@ fn good_within(s: &[u8], slots: &[u8; 64], size: usize, n: u8, keys: &mut [u32])
     }
     let mut before = [0u32; 64];
     let count = good_within(s, slots, size, n - 1, &mut before);
+    // Where a round found nothing there is no root, and the next ones find nothing either.
+    if (count == 0) & (1 < n) {
+        return 0;
+    }
     round(s, slots, size, &before, count, keys)
 }
 

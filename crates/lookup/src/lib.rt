@@ -167,6 +167,16 @@ pub fn valid_in(d: u8, clock: u32, c: Certificate) -> bool
     chain::valid_root(clock, c) & (c.domain == d)
 }
 
+// A valid operator root in a place. Most records are none, so that is asked first.
+fn valid_operator(clock: u32, place: u16, c: Certificate) -> bool
+    ensures { λ r. ⌜ r ≡ (valid-in 1 clock c && eqb (c .place) place) ⌝ }
+{
+    if !valid_in(1, clock, c) {
+        return false;
+    }
+    c.place == place
+}
+
 // Whether a place "has a valid-marked operator root".
 pub fn has_valid_operator(s: &[u8], place: u16) -> bool
     requires { ⌜ Framed (now s) ⌝ }
@@ -175,8 +185,7 @@ pub fn has_valid_operator(s: &[u8], place: u16) -> bool
     let slots = image::certificate_slots(s);
     let mut i: usize = 0;
     while i < slots {
-        let c = image::certificate(s, i);
-        if valid_in(1, image::clock(s), c) & (c.place == place) {
+        if valid_operator(image::clock(s), place, image::certificate(s, i)) {
             return true;
         }
         i += 1;

@@ -8,7 +8,7 @@ use lib.Dec.{eqb}
 use Rattle.records.specs.Phone.{decode, no-certificate}
 use Rattle.rules.specs.Words.{any}
 use Rattle.rules.specs.ImageRules.{valid-in, has-valid-operator}
-use Rattle.rules.proofs.Loops.{any-here, any-next, any-end}
+use Rattle.rules.proofs.Loops.{any-stops, any-goes-on, any-fails}
 use Rattle.lookup.proofs.has_valid_operator.Statement.{statement}
 use Rattle.lookup.proofs.has_valid_operator.Tie as tie
 
@@ -24,18 +24,21 @@ certificate-slots-requires c κs = search needs
 loop-holds : tie.Need-loop-holds Inv-loop μ-loop
 loop-holds c = (search needs, search needs, refl)
 
-certificate-requires : tie.Need-certificate-requires Inv-loop μ-loop
-certificate-requires c κs = search needs
-
 clock-requires : tie.Need-clock-requires Inv-loop μ-loop
 clock-requires c κs = search needs
 
-valid-in-requires : tie.Need-valid-in-requires Inv-loop μ-loop
-valid-in-requires c κs = search needs
+certificate-requires : tie.Need-certificate-requires Inv-loop μ-loop
+certificate-requires c κs = search needs
+
+valid-operator-requires : tie.Need-valid-operator-requires Inv-loop μ-loop
+valid-operator-requires c κs = search needs
 
 returns : tie.Need-returns Inv-loop μ-loop
 unfolding has-valid-operator
-returns c = sym (any-here no-certificate _ (c .before .before .before .before .before .before .loop .i) (λ x. valid-in 1 (decode (c .before .before .before .before .before .before .before .before .before .args .s .now) .trust .seen .clock) x && eqb (x .place) (c .before .before .before .before .before .before .before .before .before .args .place)) (omega arith) (ap (λ x. valid-in 1 (decode (c .before .before .before .before .before .before .before .before .before .args .s .now) .trust .seen .clock) x && eqb (x .place) (c .before .before .before .before .before .before .before .before .before .args .place)) (sym (c .before .before .before .before .certificate .ensures)) ∙ cc (c .before .before .valid-in .ensures, c .before .before .before .clock .ensures, c .if1 .taken))) ∙ c .before .before .before .before .before .before .loop .inv .2
+returns c =
+    let v = c .before .before .before .before .before .loop in
+    let a = c .before .before .before .before .before .before .before .before .args in
+    any-stops no-certificate _ (v .i) (λ x. valid-in 1 (decode (a .s .now) .trust .seen .clock) x && eqb (x .place) (a .place)) _ (v .inv .2) (omega arith) (c .before .before .certificate .ensures) (ap (λ k. valid-in 1 k (c .before .before .certificate .result) && eqb (c .before .before .certificate .result .place) (a .place)) (sym (c .before .before .before .clock .ensures)) ∙ sym (c .before .valid-operator .ensures) ∙ c .if1 .taken)
 
 add-i : tie.Need-add-i Inv-loop μ-loop
 add-i c = search needs
@@ -44,11 +47,16 @@ loop-less : tie.Need-loop-less Inv-loop μ-loop
 loop-less c = search needs
 
 loop-again : tie.Need-loop-again Inv-loop μ-loop
-loop-again c = (search needs, search needs, sym (any-next no-certificate _ (c .before .before .before .before .before .before .loop .i) (λ x. valid-in 1 (decode (c .before .before .before .before .before .before .before .before .before .args .s .now) .trust .seen .clock) x && eqb (x .place) (c .before .before .before .before .before .before .before .before .before .args .place)) (omega arith) (ap (λ x. valid-in 1 (decode (c .before .before .before .before .before .before .before .before .before .args .s .now) .trust .seen .clock) x && eqb (x .place) (c .before .before .before .before .before .before .before .before .before .args .place)) (sym (c .before .before .before .before .certificate .ensures)) ∙ cc (c .before .before .valid-in .ensures, c .before .before .before .clock .ensures, c .if1 .left))) ∙ c .before .before .before .before .before .before .loop .inv .2)
+loop-again c =
+    let v = c .before .before .before .before .before .loop in
+    let a = c .before .before .before .before .before .before .before .before .args in
+    (search needs, search needs, any-goes-on no-certificate _ (v .i) (λ x. valid-in 1 (decode (a .s .now) .trust .seen .clock) x && eqb (x .place) (a .place)) _ (v .inv .2) (omega arith) (c .before .before .certificate .ensures) (ap (λ k. valid-in 1 k (c .before .before .certificate .result) && eqb (c .before .before .certificate .result .place) (a .place)) (sym (c .before .before .before .clock .ensures)) ∙ sym (c .before .valid-operator .ensures) ∙ c .if1 .left))
 
 returns-2 : tie.Need-returns-2 Inv-loop μ-loop
 unfolding has-valid-operator
-returns-2 c = sym (any-end no-certificate _ (c .before .loop .i) (λ x. valid-in 1 (decode (c .before .before .before .before .args .s .now) .trust .seen .clock) x && eqb (x .place) (c .before .before .before .before .args .place)) (omega arith)) ∙ c .before .loop .inv .2
+returns-2 c =
+    let a = c .before .before .before .before .args in
+    any-fails no-certificate _ (c .before .loop .i) (λ x. valid-in 1 (decode (a .s .now) .trust .seen .clock) x && eqb (x .place) (a .place)) _ (c .before .loop .inv .2) (omega arith)
 
 pub has-valid-operator-spec : {M : Type 1} → statement M
 has-valid-operator-spec =
@@ -58,9 +66,9 @@ has-valid-operator-spec =
     μ-loop
     certificate-slots-requires
     loop-holds
-    certificate-requires
     clock-requires
-    valid-in-requires
+    certificate-requires
+    valid-operator-requires
     returns
     add-i
     loop-less
