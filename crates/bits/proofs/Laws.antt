@@ -1,13 +1,13 @@
 -- What the code's shifts and masks are in plain arithmetic, and what a put digit changes. Assumes nothing.
-use mathlib.Core.Path.{_≡_, refl, sym, ap, ap₂, _∙_, subst}
+use mathlib.Core.Path.{_≡_, sym, ap, ap₂, _∙_, subst}
 use Prim.Native.Nat.{ℕ, suc, _+_, _-_, _*_, _/_, _%_, _^_, _<_, _≤_}
-use native.Mathlib.Nat.{mod-lt, add-zero, one-mul, mod-eq-of-lt, mul-assoc, add-mul-div-right, mul-add-mod-self-right, mul-comm, add-comm, mod-mod, mul-sub, max-eq-right, le-of-suc-le-suc}
+use native.Mathlib.Nat.{mod-lt, add-zero, one-mul, mod-eq-of-lt, mul-comm, mod-mod, mul-sub, max-eq-right, le-of-suc-le-suc}
 use native.Mathlib.Omega.{arith}
 use lib.Pow.{field, mod-mod-pow, pow-pos, pow-add, pow-mono, ones-lt, split, high, low, shl-exact, shr-lt, shr-shr}
 use native.Mathlib.Decide.{decLt}
 use lib.Bits.{bitAnd, bitOr, and-mask, or-block, and-block, or-step, or-zero-r, and-high}
 use lib.Arith.{digits-lt}
-use lib.Dec.{lit<, lit≤}
+use lib.Dec.{lit<}
 use Rattle.bits.specs.Bits.{digit, put-digit}
 
 -- 1 << k at a u32

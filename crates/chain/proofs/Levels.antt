@@ -14,12 +14,12 @@ use Rattle.rules.specs.Words.{any, least}
 use Rattle.rules.specs.Chains.{trusted-root, link, serves, good, most-links, within, links}
 use Rattle.rules.proofs.Tests.{tests, or-cases, is, si, isnt}
 use Rattle.rules.proofs.Lists.{any-out, any-in}
-use Rattle.rules.proofs.Loops.{any-end}
+use Rattle.rules.proofs.Loops.{any-rest, any-end}
 use Rattle.rules.proofs.Slots.{any-not}
 use Rattle.chain.specs.Keys.{slot, among, Lists, rooted, led, above, Advanced}
 use Rattle.chain.proofs.Good.{same}
 use Rattle.chain.proofs.Among.{among-more, among-none}
-use Rattle.chain.proofs.Rounds.{passed, taken, known, ended, left-more, any-same}
+use Rattle.chain.proofs.Rounds.{passed, taken, known, ended, any-same}
 
 module _ (t : Trust) (d : ℕ) (p : ℕ → Bool) where
   rooted-is : (c : Certificate) → rooted t d p c ≡ ((eqb (c .domain) d && p (c .key)) && trusted-root (t .seen) c)
@@ -87,12 +87,12 @@ module _ (t : Trust) (d : ℕ) (wanted : List ℕ) (count : ℕ) where
     led-here l f v = ap (led t d is-wanted v) (sym q) ∙ led-is t d is-wanted v c ∙ ap (λ x. x && (link (t .seen) c && eqb (c .verifying) v)) (sym e) ∙ ap (λ x. b && (x && eqb (c .verifying) v)) (sym f)
 
     rootless-next : (r : Bool) → r ≡ trusted-root (t .seen) c → (b && r) ≡ false → roots (i + 1) ≡ roots 0
-    rootless-next r f z = ap (λ x. x || roots (i + 1)) (sym (root-here r f ∙ z)) ∙ sym (left-more (rooted t d is-wanted) t i h) ∙ s .rootless
+    rootless-next r f z = ap (λ x. x || roots (i + 1)) (sym (root-here r f ∙ z)) ∙ sym (any-rest no-certificate (t .certificates) i (rooted t d is-wanted) h) ∙ s .rootless
 
     keys-here : (l : Bool) → l ≡ link (t .seen) c → (v : ℕ) → (among (λ x. eqb x v) next size || ((b && (l && eqb (c .verifying) v)) || leads v (i + 1))) ≡ leads v 0
     keys-here l f v =
         ap (λ x. among (λ x. eqb x v) next size || (x || leads v (i + 1))) (sym (led-here l f v))
-        ∙ ap (λ x. among (λ x. eqb x v) next size || x) (sym (left-more (led t d is-wanted v) t i h))
+        ∙ ap (λ x. among (λ x. eqb x v) next size || x) (sym (any-rest no-certificate (t .certificates) i (led t d is-wanted v) h))
         ∙ s .keys v
 
     keys-skip : (l : Bool) → l ≡ link (t .seen) c → (b && l) ≡ false → (v : ℕ) → (among (λ x. eqb x v) next size || leads v (i + 1)) ≡ leads v 0
@@ -108,7 +108,7 @@ module _ (t : Trust) (d : ℕ) (wanted : List ℕ) (count : ℕ) where
       pub searched-root : r ≡ true → Advanced t d is-wanted true next 0
       searched-root x =
           record {
-            tells = ap (λ x. x || roots (i + 1)) (sym (root-here r f ∙ ap (λ x. x && r) y ∙ x)) ∙ sym (left-more (rooted t d is-wanted) t i h) ∙ s .rootless;
+            tells = ap (λ x. x || roots (i + 1)) (sym (root-here r f ∙ ap (λ x. x && r) y ∙ x)) ∙ sym (any-rest no-certificate (t .certificates) i (rooted t d is-wanted) h) ∙ s .rootless;
             level = λ z. absurd (false≢true (sym z));
           }
 

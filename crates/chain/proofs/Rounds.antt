@@ -1,15 +1,13 @@
 -- The good keys of a domain, round by round: a list that grows, and what is left to look at. Assumes nothing.
-use Prim.Native.Nat.{ℕ, zero, suc, _+_, _-_, _≤_, _<_}
+use Prim.Native.Nat.{ℕ, suc, _+_, _-_, _≤_, _<_}
 use mathlib.Core.Bool.{Bool, true, false, not, _&&_, _||_, and-true, and-false, or-false, false≢true}
 use mathlib.Core.List.{List, [], _∷_, List·Memᴰ}
 use mathlib.Core.Logic.{_≢_, _⊎_, inl, inr}
 use mathlib.Core.Path.{_≡_, refl, sym, ap, ap₂, _∙_, subst}
 use native.Mathlib.Omega.{arith}
-use native.Mathlib.Numerals.{add-one}
 use borrow.Author.Tests.{eq-eqb, ne-eqb}
 use lib.Dec.{T, eqb, ltb, ltb→lt}
 use lib.ListN.{length, getD, set, drop}
-use lib.Seq.{drop-cons}
 use Rattle.records.specs.Phone.{Trust, no-certificate}
 use Rattle.records.specs.declared.Certificate.{Certificate}
 use Rattle.records.specs.declared.Executable.{Executable}
@@ -17,7 +15,7 @@ use Rattle.rules.specs.Words.{any}
 use Rattle.rules.specs.Chains.{present, in-date, trusted-root, link, valid-root, serves, good, within, chains-to}
 use Rattle.rules.proofs.Tests.{tests, is, tnsi, and-l, and-r, or-i, or-cases}
 use Rattle.rules.proofs.Lists.{any-out, any-in}
-use Rattle.rules.proofs.Loops.{any-end}
+use Rattle.rules.proofs.Loops.{any-rest, any-end}
 use Rattle.rules.proofs.Slots.{any-not}
 use Rattle.chain.specs.Keys.{slot, among, Lists, good-key, chained-in, candidate, Candidates}
 use Rattle.chain.proofs.Good.{same}
@@ -48,11 +46,6 @@ module _ (b a r w : Bool) (inv : (a || (b || r)) ≡ w) where
 pub ended : (a r w : Bool) → (a || r) ≡ w → r ≡ false → a ≡ w
 ended true r w inv h = inv
 ended false r w inv h = sym h ∙ inv
-
--- what is left of the slots, the first of them apart
-pub left-more : (f : Certificate → Bool) (t : Trust) (i : ℕ) → i < length (t .certificates) → any f (drop i (t .certificates)) ≡ (f (slot t i) || any f (drop (i + 1) (t .certificates)))
-unfolding any
-left-more f t i h = ap (any f) (drop-cons (t .certificates) i no-certificate h ∙ ap (λ n. slot t i ∷ drop n (t .certificates)) (sym (add-one i)))
 
 -- ---- candidates
 
@@ -101,7 +94,7 @@ module _ (t : Trust) (d : ℕ) (f : Certificate → Bool) where
     here : (listed l k || ((b && f (slot t i)) || still (i + 1))) ≡ still 0
     here =
         ap (λ x. listed l k || ((x && f (slot t i)) || still (i + 1))) (e ∙ ap (candidate t d) q)
-        ∙ ap (λ x. listed l k || x) (sym (left-more (λ c. candidate t d c && f c) t i h))
+        ∙ ap (λ x. listed l k || x) (sym (any-rest no-certificate (t .certificates) i (λ c. candidate t d c && f c) h))
         ∙ inv
 
     pub list-skip : b ≡ false → (listed l k || still (i + 1)) ≡ still 0

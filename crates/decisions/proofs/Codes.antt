@@ -1,8 +1,8 @@
 -- The rows of the table of codes that matter for each kind of event. Assumes nothing.
 use Prim.Native.Nat.{ℕ, _<_}
-use mathlib.Core.Bool.{Bool, true, false, not, _&&_, _||_}
+use mathlib.Core.Bool.{Bool, true, false, not, _&&_, and-true, or-false}
 use mathlib.Core.List.{List, [], _∷_}
-use mathlib.Core.Path.{_≡_, refl, subst, sym, ap, _∙_}
+use mathlib.Core.Path.{_≡_, subst, sym, ap, _∙_}
 use native.Mathlib.Omega.{arith}
 use borrow.Author.Tests.{le-leb}
 use lib.Dec.{eqb, leb, ltb}
@@ -24,14 +24,6 @@ use Rattle.decisions.proofs.Rows.{Gives, gives}
 unfoldable the-table : Unit {0}
 unfolding first code-of malformed subject acts-for id-unknown actor-barred time-back card-unknown card-wrong card-away id-taken key-elsewhere install-of-other mark-of-other no-such-root another-valid no-free-slot table-byte never not-permitted clock-form card-form card-in-form card-out-form install-form id-form message-form executable-form action-form new-certificate
 the-table = tt
-
-and-true : (b : Bool) → (b && true) ≡ b
-and-true true = refl
-and-true false = refl
-
-or-false : (b : Bool) → (b || false) ≡ b
-or-false true = refl
-or-false false = refl
 
 -- ---- the rows, in their order
 

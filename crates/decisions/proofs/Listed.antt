@@ -4,16 +4,15 @@ use mathlib.Core.Bool.{Bool, true, false, cond}
 use mathlib.Core.List.{List, _∷_}
 use mathlib.Core.Logic.{_≢_}
 use mathlib.Core.Path.{_≡_, refl, sym, ap, _∙_}
-use native.Mathlib.Numerals.{add-one}
 use native.Mathlib.Omega.{arith}
 use borrow.Author.Tests.{ne-eqb}
 use lib.Dec.{eqb}
 use lib.ListN.{length, getD, drop, drop-of-length-le, List·getD-eq-default}
-use lib.Seq.{length-take-le, getD-take, drop-cons}
+use lib.Seq.{length-take-le, getD-take}
 use Rattle.records.specs.declared.Event.{Event}
 use Rattle.rules.specs.Words.{any, all-zero}
 use Rattle.rules.specs.Forms.{eight, listed}
-use Rattle.rules.proofs.Loops.{any-here, any-next, any-end}
+use Rattle.rules.proofs.Loops.{rest, any-here, any-next, any-end}
 
 past-four : (n i : ℕ) → n ≤ i → i ≢ n → i ≢ n + 1 → i ≢ n + 2 → i ≢ n + 3 → n + 4 ≤ i
 past-four n i h a b c d = omega arith
@@ -45,14 +44,11 @@ zero-rest n l h = sum-rest n _ h
 
 -- what a loop keeps of `all-zero` of what is left, from number i on, and what it answers: w is what is asked
 module _ (l : List ℕ) (i : ℕ) (w : Bool) (inv : all-zero (drop i l) ≡ w) where
-  left : i < length l → drop i l ≡ getD l i 0 ∷ drop (i + 1) l
-  left h = rw (add-one, drop-cons l i 0)
-
   pub zero-stops : i < length l → getD l i 0 ≢ 0 → false ≡ w
-  zero-stops h n = sym (ap all-zero (left h) ∙ zero-first (getD l i 0) (drop (i + 1) l) n) ∙ inv
+  zero-stops h n = sym (ap all-zero (rest 0 l i h) ∙ zero-first (getD l i 0) (drop (i + 1) l) n) ∙ inv
 
   pub zero-goes-on : i < length l → getD l i 0 ≡ 0 → all-zero (drop (i + 1) l) ≡ w
-  zero-goes-on h n = sym (ap all-zero (left h) ∙ zero-rest (getD l i 0) (drop (i + 1) l) n) ∙ inv
+  zero-goes-on h n = sym (ap all-zero (rest 0 l i h) ∙ zero-rest (getD l i 0) (drop (i + 1) l) n) ∙ inv
 
   pub zero-passes : length l ≤ i → true ≡ w
   unfolding all-zero

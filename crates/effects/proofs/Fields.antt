@@ -1,7 +1,7 @@
 -- A write of one field, the old value or the new, makes the record that the rules make. Assumes nothing.
 use Prim.Native.Nat.{ℕ}
-use mathlib.Core.Bool.{Bool, true, false, cond, not, _&&_, _||_}
-use mathlib.Core.Path.{_≡_, refl, sym, ap, _∙_}
+use mathlib.Core.Bool.{Bool, true, false, cond, not, _&&_}
+use mathlib.Core.Path.{_≡_, sym, ap, _∙_}
 use lib.Dec.{eqb}
 use Rattle.records.specs.Phone.{Trust, marked, enabling, in-domain, permitted}
 use Rattle.records.specs.declared.Certificate.{Certificate}

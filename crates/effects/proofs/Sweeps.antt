@@ -7,11 +7,11 @@ use native.Mathlib.Nat.{le-of-suc-le-suc, not-suc-le-zero}
 use native.Mathlib.Numerals.{add-one}
 use native.Mathlib.Omega.{arith}
 use lib.ListN.{length, getD, drop, set, length-set}
-use lib.Seq.{set-getD, drop-cons}
+use lib.Seq.{set-getD}
 use Rattle.records.specs.Phone.{Phone, decode, encode}
 use Rattle.records.specs.Frame.{Framed}
 use Rattle.rules.specs.Words.{any}
-use Rattle.rules.proofs.Loops.{any-next, any-end}
+use Rattle.rules.proofs.Loops.{any-rest, any-next, any-end}
 use Rattle.effects.specs.Sweeps.{swept}
 use Rattle.effects.proofs.Parts.{Part, says, framed-as}
 
@@ -39,10 +39,8 @@ module _ {A : Type 0} (f : A → A) where
 -- what a loop has gathered of a test, and what is to come
 module _ {A : Type 0} (t : A → Bool) (d : A) (l : List A) (i : ℕ) (b : Bool) {w : Bool} where
   pub gathers : {c : Bool} → (b || any t (drop i l)) ≡ w → i < length l → c ≡ t (getD l i d) → (b || c || any t (drop (i + 1) l)) ≡ w
-  unfolding any
   gathers {c} inv h e =
-      or-assoc b c (any t (drop (i + 1) l)) ∙ ap (λ c. b || (c || any t (drop (i + 1) l))) e
-      ∙ ap (λ n. b || (t (getD l i d) || any t (drop n l))) (add-one i) ∙ ap (λ r. b || any t r) (sym (drop-cons l i d h)) ∙ inv
+      or-assoc b c (any t (drop (i + 1) l)) ∙ ap (λ c. b || (c || any t (drop (i + 1) l))) e ∙ ap (λ c. b || c) (sym (any-rest d l i t h)) ∙ inv
 
   pub gathers-none : (b || any t (drop i l)) ≡ w → i < length l → t (getD l i d) ≡ false → (b || any t (drop (i + 1) l)) ≡ w
   gathers-none inv h e = ap (λ c. b || c) (sym (any-next d l i t h e)) ∙ inv

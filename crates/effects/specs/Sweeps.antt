@@ -5,7 +5,7 @@ use mathlib.Core.Path.{_≡_}
 use mathlib.Core.List.{List, _++_, map, List·Memᴰ}
 use lib.Dec.{eqb}
 use lib.ListN.{length, take, drop}
-use Rattle.records.specs.Phone.{Trust, Phone, with-certificates, with-executables, marked, in-domain, executable-at}
+use Rattle.records.specs.Phone.{Trust, Phone, with-executables, marked, in-domain, executable-at}
 use Rattle.records.specs.declared.Certificate.{Certificate}
 use Rattle.records.specs.declared.Executable.{Executable}
 use Rattle.records.specs.declared.Event.{Event}

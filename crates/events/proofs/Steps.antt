@@ -5,7 +5,7 @@ use mathlib.Core.List.{List}
 use mathlib.Core.Logic.{_≢_}
 use mathlib.Core.Path.{_≡_, refl, sym, ap, _∙_, subst}
 use native.Mathlib.Omega.{arith}
-use borrow.Author.Tests.{eq-eqb, ne-eqb, lt-leb}
+use borrow.Author.Tests.{ne-eqb, lt-leb}
 use lib.Dec.{eqb, leb}
 use lib.ListN.{length, getD}
 use Rattle.octets.proofs.Laws.{Bytes}

@@ -1,6 +1,6 @@
 -- Kinds 10 to 15 touch no chain, kinds 5 and 7 break none but by the marks that a card takes, and time breaks none while no record runs out: after their effect there is nothing to settle. Assumes nothing.
 use Prim.Native.Nat.{ℕ}
-use mathlib.Core.Bool.{Bool, true, false, not, _&&_, _||_}
+use mathlib.Core.Bool.{Bool, false, not, _&&_, _||_}
 use mathlib.Core.List.{List, map, List·Memᴰ, Memᴰ·map, Memᴰ·of-map}
 use mathlib.Core.Logic.{_≢_, _⊎_, inl, inr}
 use mathlib.Core.Path.{_≡_, refl, sym, ap, subst, _∙_}

@@ -1,18 +1,16 @@
 -- What verify and request are told: the executable's domain and its link count. Assumes nothing.
 use Prim.Native.Nat.{ℕ, _<_}
-use mathlib.Core.Bool.{Bool, true, false, cond, _||_}
+use mathlib.Core.Bool.{true}
 use mathlib.Core.List.{List}
-use mathlib.Core.Logic.{_≢_}
-use mathlib.Core.Path.{_≡_, refl, sym, ap, _∙_, subst}
-use borrow.Author.Tests.{eq-eqb}
-use lib.Dec.{T, eqb}
+use mathlib.Core.Path.{_≡_, refl, sym, ap, _∙_}
+use lib.Dec.{T}
 use lib.ListN.{length}
 use Rattle.records.specs.Phone.{Trust, Phone, no-executable, executable-at}
 use Rattle.records.specs.declared.Executable.{Executable}
 use Rattle.records.specs.declared.Event.{Event}
 use Rattle.rules.specs.declared.Answer.{Answer}
 use Rattle.rules.specs.declared.Chained.{Chained}
-use Rattle.rules.specs.Chains.{chain-domain, links, chain-of}
+use Rattle.rules.specs.Chains.{links, chain-of}
 use Rattle.rules.specs.Forms.{with-kind}
 use Rattle.rules.specs.Codes.{is-executable, executable-named, executable-known}
 use Rattle.rules.specs.Effects.{changed}

@@ -4,29 +4,24 @@ use mathlib.Core.Bool.{Bool, true, false, cond, not, _||_}
 use mathlib.Core.List.{List, [], _∷_}
 use mathlib.Core.Path.{_≡_, refl, sym, ap, subst, _∙_}
 use native.Mathlib.Nat.{zero-add}
-use native.Mathlib.Numerals.{add-one}
 use native.Mathlib.Omega.{arith}
 use borrow.Author.Tests.{lt-ltb, le-ltb}
 use lib.Dec.{T, ltb, leb·suc-zero, leb·suc-suc}
-use lib.ListN.{length, getD, set, drop, drop-of-length-le}
-use lib.Seq.{drop-cons}
-use Rattle.rules.specs.Words.{any, find, fill}
+use lib.ListN.{length, getD, drop, drop-of-length-le}
+use Rattle.rules.specs.Words.{any, find}
 use Rattle.rules.proofs.Accepts.{T-true}
+use Rattle.rules.proofs.Loops.{rest}
 use Rattle.rules.proofs.Slots.{any-at}
 use Rattle.lookup.specs.Places.{first-place}
 
 module _ {A : Type 0} (t : A → Bool) (d : A) (l : List A) (i : ℕ) where
-  -- the rest of the list, its first slot apart
-  rest : i < length l → drop i l ≡ getD l i d ∷ drop (i + 1) l
-  rest h = drop-cons l i d h ∙ ap (λ n. getD l i d ∷ drop n l) (sym (add-one i))
-
   here : i < length l → t (getD l i d) ≡ true → first-place t (drop i l) ≡ 0
   unfolding first-place
-  here h e = rw (rest h, e)
+  here h e = rw (rest d l i h, e)
 
   later : i < length l → t (getD l i d) ≡ false → first-place t (drop i l) ≡ suc (first-place t (drop (i + 1) l))
   unfolding first-place
-  later h e = rw (rest h, e)
+  later h e = rw (rest d l i h, e)
 
   past : length l ≤ i → first-place t (drop i l) ≡ 0
   unfolding first-place

@@ -1,11 +1,11 @@
 -- I8 a domain at a time: I7 leaves no executable a domain above 3. Assumes nothing.
 use Prim.Native.Nat.{ℕ, zero, suc, _≤_}
-use mathlib.Core.Bool.{Bool, true, false, not, _&&_, _||_}
+use mathlib.Core.Bool.{Bool, true, false, not, _&&_}
 use mathlib.Core.List.{List·Memᴰ}
 use mathlib.Core.Logic.{_⊎_, inl, inr}
 use mathlib.Core.Path.{_≡_, refl, sym, ap, _∙_, subst}
 use native.Mathlib.Omega.{arith}
-use lib.Dec.{T, T-not, eqb}
+use lib.Dec.{T, eqb}
 use lib.ListN.{length}
 use Rattle.records.specs.Phone.{Trust, Phone, no-executable}
 use Rattle.records.specs.declared.Executable.{Executable}
@@ -16,7 +16,7 @@ use Rattle.rules.proofs.Accepted.{Stored}
 use Rattle.rules.proofs.Accepts.{chained-fits, chained-out}
 use Rattle.rules.proofs.Fits.{program-fits, executable-out}
 use Rattle.rules.proofs.Lists.{all-out, all-in}
-use Rattle.rules.proofs.Tests.{tests, is, si, isnt, tnsi, or-cases, or-i, or-j, and-i, by-test}
+use Rattle.rules.proofs.Tests.{tests, is, si, isnt, or-cases, or-i, or-j, by-test}
 use Rattle.chain.specs.Keys.{chained-in}
 use Rattle.chain.proofs.Good.{same}
 

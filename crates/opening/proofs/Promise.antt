@@ -9,10 +9,9 @@ use lib.ListN.{getD}
 use Rattle.octets.proofs.Laws.{Bytes}
 use Rattle.records.specs.Phone.{decode, no-certificate, no-executable}
 use Rattle.records.specs.declared.Certificate.{Certificate}
-use Rattle.records.specs.declared.Executable.{Executable}
 use Rattle.records.proofs.RoundTrip.{frame}
 use Rattle.rules.specs.ImageRules.{accepted}
-use Rattle.rules.proofs.Accepted.{Occupied, Stored}
+use Rattle.rules.proofs.Accepted.{Occupied}
 use Rattle.rules.proofs.Accepts.{accepted-out}
 use Rattle.opening.specs.Opened.{Accepted-image}
 use Rattle.opening.proofs.Domains.{executable-domain}

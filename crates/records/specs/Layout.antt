@@ -1,6 +1,6 @@
 -- What the bytes of a record mean, and the bytes of a record. Definitions only.
 use Prim.Native.Nat.{ℕ, _+_}
-use mathlib.Core.List.{List, [], _∷_, _++_}
+use mathlib.Core.List.{List, _++_}
 use lib.ListN.{getD}
 use Rattle.octets.specs.Octets.{be8, be16, be32, bytes}
 use Rattle.records.specs.declared.Certificate.{Certificate}

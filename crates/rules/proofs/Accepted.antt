@@ -1,13 +1,11 @@
 -- The image rules I2 to I8 as propositions: what the tests of specs/ImageRules.antt are worth. Definitions only; `Accepts` joins the two.
 use Prim.Native.Nat.{ℕ, _≤_, _<_, _^_}
-use mathlib.Core.Bool.{Bool}
 use mathlib.Core.List.{List, map, List·Memᴰ}
 use mathlib.Core.Logic.{_≢_, _⊎_}
 use mathlib.Core.Path.{_≡_}
 use lib.Dec.{T}
 use lib.ListN.{length}
-use Rattle.records.specs.Layout.{row-byte}
-use Rattle.records.specs.Phone.{Seen, Trust, Phone, no-certificate, no-executable, row-at}
+use Rattle.records.specs.Phone.{Seen, Trust, Phone, no-certificate, no-executable}
 use Rattle.records.specs.declared.Certificate.{Certificate}
 use Rattle.records.specs.declared.Card.{Card}
 use Rattle.records.specs.declared.Executable.{Executable}

@@ -1,13 +1,13 @@
 -- Numbers that differ, but for 0. Assumes nothing.
-use Prim.Native.Nat.{ℕ, zero, suc, _≤_}
-use mathlib.Core.Bool.{Bool, true, false, cond, not, _&&_, _||_}
+use Prim.Native.Nat.{ℕ}
+use mathlib.Core.Bool.{Bool, true, false, cond, not, _||_}
 use mathlib.Core.List.{List, [], _∷_, map, List·Memᴰ, List·Memᴰ·head, List·Memᴰ·tail, List·Memᴰ·cases-cons, List·Memᴰ·not-nil, Memᴰ·map, Memᴰ·of-map}
 use mathlib.Core.Logic.{_≢_, _⊎_, inl, inr}
-use mathlib.Core.Path.{_≡_, refl, subst, sym, ap, _∙_}
-use lib.Dec.{T, eqb, T-not, not-T}
+use mathlib.Core.Path.{_≡_, refl, sym, ap, _∙_}
+use lib.Dec.{T, eqb, T-not}
 use Rattle.rules.specs.Words.{any, fill, distinct}
-use Rattle.rules.proofs.Tests.{tests, is, si, or-cases, and-l, and-r, and-i, or-i, or-j, by-test, isnt}
-use Rattle.rules.proofs.Lists.{any-in, any-out, Some, none-in, none-out, fill-out}
+use Rattle.rules.proofs.Tests.{tests, is, si, or-cases, and-r, and-i, or-j, by-test, isnt}
+use Rattle.rules.proofs.Lists.{any-in, none-in, fill-out}
 
 module _ {A : Type 0} (i : A → ℕ) where
   -- one that is not 0 is not met again

@@ -1,6 +1,6 @@
 -- What a loop over slots keeps: `any`, `all`, `find` and `distinct` of what is left of the list, from slot i on. Assumes nothing.
-use Prim.Native.Nat.{ℕ, suc, _+_, _≤_, _<_}
-use mathlib.Core.Bool.{Bool, true, false, cond, not, _&&_, _||_}
+use Prim.Native.Nat.{ℕ, _+_, _≤_, _<_}
+use mathlib.Core.Bool.{Bool, true, false, not, _&&_, _||_}
 use mathlib.Core.List.{List, [], _∷_, map}
 use mathlib.Core.Path.{_≡_, refl, sym, ap, subst, _∙_}
 use native.Mathlib.Numerals.{add-one}
@@ -12,11 +12,15 @@ use borrow.Author.Tests.{not-true, not-false}
 use Rattle.rules.specs.Words.{any, all, find, distinct}
 
 module _ {A : Type 0} (d : A) (l : List A) (i : ℕ) where
-  -- the rest of the list, its first slot apart
-  rest : i < length l → drop i l ≡ getD l i d ∷ drop (i + 1) l
+  -- what is left of the list, its first slot apart
+  pub rest : i < length l → drop i l ≡ getD l i d ∷ drop (i + 1) l
   rest h = drop-cons l i d h ∙ ap (λ n. getD l i d ∷ drop n l) (sym (add-one i))
 
   module _ (f : A → Bool) where
+    pub any-rest : i < length l → any f (drop i l) ≡ (f (getD l i d) || any f (drop (i + 1) l))
+    unfolding any
+    any-rest h = ap (any f) (rest h)
+
     pub any-here : i < length l → f (getD l i d) ≡ true → any f (drop i l) ≡ true
     unfolding any
     any-here h e = rw (rest h, e)

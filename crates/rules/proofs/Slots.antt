@@ -1,15 +1,15 @@
 -- The rules speak of every slot; code finds one slot and writes it. These say that it comes to the same. Assumes nothing.
-use Prim.Native.Nat.{ℕ, zero, suc, _≤_, _<_}
-use mathlib.Core.Bool.{Bool, true, false, cond, not, _&&_, _||_}
+use Prim.Native.Nat.{ℕ, zero, suc, _<_}
+use mathlib.Core.Bool.{Bool, true, false, cond, not, _||_}
 use mathlib.Core.List.{List, [], _∷_, map, List·Memᴰ, List·Memᴰ·head, List·Memᴰ·tail}
-use mathlib.Core.Logic.{_≢_, _⊎_, inl, inr}
-use mathlib.Core.Path.{_≡_, refl, subst, sym, ap, _∙_}
+use mathlib.Core.Logic.{_≢_}
+use mathlib.Core.Path.{_≡_, refl, sym, ap, _∙_}
 use native.Mathlib.Omega.{arith}
 use native.Mathlib.Nat.{le-of-suc-le-suc, not-suc-le-zero}
-use lib.Dec.{T, eqb, T-not}
+use lib.Dec.{T, eqb}
 use lib.ListN.{getD, set, length}
 use Rattle.rules.specs.Words.{any, at, fill, find, distinct}
-use Rattle.rules.proofs.Tests.{tests, is, si, isnt, tnsi, or-i, or-j, or-cases}
+use Rattle.rules.proofs.Tests.{is, si, tnsi, or-i, or-j}
 use Rattle.rules.proofs.Distinct.{head-alone, tail-distinct}
 
 module _ {A : Type 0} where

@@ -1,9 +1,9 @@
 -- Boolean tests, taken apart and put together. Assumes nothing.
-use Prim.Native.Nat.{ℕ, zero, suc, _≤_}
+use Prim.Native.Nat.{ℕ, zero, suc}
 use mathlib.Core.Bool.{Bool, true, false, cond, not, _&&_, _||_}
 use mathlib.Core.Logic.{_≢_, _⊎_, inl, inr}
-use mathlib.Core.Path.{_≡_, refl, subst, sym}
-use lib.Dec.{T, T-not, not-T, leb, eqb, eqb→eq, eqb-refl, eqb·suc-zero, leb→le, le→leb}
+use mathlib.Core.Path.{_≡_, refl, subst}
+use lib.Dec.{T, T-not, not-T, eqb, eqb→eq, eqb-refl}
 use mathlib.Core.List.{List, [], _∷_}
 use Rattle.rules.specs.Words.{_implies_, Check, _⇒_, first}
 

@@ -1,7 +1,7 @@
 -- What the three demands speak of: grants, and the events that withdraw and that give. Definitions only.
 use Prim.Native.Nat.{ℕ}
 use mathlib.Core.Bool.{Bool, not, _&&_, _||_}
-use mathlib.Core.List.{List, [], _∷_}
+use mathlib.Core.List.{List}
 use lib.Dec.{eqb}
 use Rattle.records.specs.Layout.{event-bytes}
 use Rattle.records.specs.Phone.{Phone}

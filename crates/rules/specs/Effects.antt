@@ -5,7 +5,7 @@ use mathlib.Core.List.{List, [], _∷_, map}
 use lib.Dec.{eqb}
 use lib.ListN.{getD}
 use Rattle.bits.specs.Bits.{set-bit, clear-bit}
-use Rattle.records.specs.Phone.{Seen, Trust, Phone, no-certificate, no-executable, with-clock, with-card, with-mode, with-certificates, with-executables, marked, enabling, in-domain, permitted}
+use Rattle.records.specs.Phone.{Trust, Phone, no-certificate, no-executable, with-clock, with-card, with-mode, with-certificates, with-executables, marked, enabling, in-domain, permitted}
 use Rattle.records.specs.declared.Certificate.{Certificate}
 use Rattle.records.specs.declared.Executable.{Executable}
 use Rattle.records.specs.declared.Event.{Event}

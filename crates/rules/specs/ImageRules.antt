@@ -1,10 +1,10 @@
 -- 01, "The image": the image rules, checked in this order. Definitions only.
 use Prim.Native.Nat.{ℕ, _^_}
-use mathlib.Core.Bool.{Bool, true, false, cond, not, _&&_, _||_}
+use mathlib.Core.Bool.{Bool, cond, not, _&&_, _||_}
 use mathlib.Core.List.{List, [], _∷_, map}
 use lib.Dec.{eqb, leb, ltb}
 use lib.ListN.{length}
-use Rattle.records.specs.Phone.{Seen, Trust, Phone, decode, no-card}
+use Rattle.records.specs.Phone.{Trust, Phone, decode, no-card}
 use Rattle.records.specs.Frame.{framed}
 use Rattle.records.specs.declared.Certificate.{Certificate}
 use Rattle.records.specs.declared.Card.{Card}

@@ -1,6 +1,6 @@
 -- One event on an image, and a run of them: bytes in, answers and bytes out, for every input. Definitions only.
 use Prim.Native.Nat.{ℕ}
-use mathlib.Core.Bool.{Bool, cond, _||_}
+use mathlib.Core.Bool.{cond, _||_}
 use mathlib.Core.List.{List, [], _∷_}
 use lib.Dec.{eqb}
 use Rattle.records.specs.Layout.{event-read}

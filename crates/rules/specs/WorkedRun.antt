@@ -1,6 +1,6 @@
 -- 01, "One run of bench, whole", computed from its bytes, and the ten boundaries that 01 marks P. Assumes nothing.
 use Prim.Native.Nat.{ℕ}
-use mathlib.Core.Bool.{Bool, true}
+use mathlib.Core.Bool.{true}
 use mathlib.Core.List.{List, [], _∷_, _++_, map}
 use mathlib.Core.Path.{_≡_, refl}
 use lib.ListN.{getD, take}

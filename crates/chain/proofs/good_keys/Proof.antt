@@ -1,5 +1,4 @@
 use borrow.Author.Needs.{needs}
-use native.Mathlib.Omega.{arith}
 use Rattle.chain.proofs.good_keys.Statement.{statement}
 use Rattle.chain.proofs.good_keys.Tie as tie
 

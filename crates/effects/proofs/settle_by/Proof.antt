@@ -3,9 +3,8 @@ use native.Mathlib.Omega.{arith}
 use borrow.Author.Needs.{needs}
 use mathlib.Core.Path.{sym, subst}
 use lib.ListN.{length}
-use Rattle.records.specs.Phone.{decode}
 use Rattle.chain.specs.Keys.{Lists, good-key}
-use Rattle.effects.specs.Sweeps.{settled-in, settle-in}
+use Rattle.effects.specs.Sweeps.{settle-in}
 use Rattle.effects.proofs.Parts.{executables}
 use Rattle.effects.proofs.Sweeps.{sweep-starts, sweep-ends}
 use Rattle.effects.proofs.Domains.{Settling, same-trust, settling-next, settling-writes}

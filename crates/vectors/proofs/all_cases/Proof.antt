@@ -1,5 +1,4 @@
-use mathlib.Core.Path.{sym, _≡_}
-use lib.Seq.{length-take-le}
+use mathlib.Core.Path.{_≡_}
 use borrow.Author.Needs.{needs}
 use lib.ListN.{length}
 use Prim.Native.Nat.{_-_, _≤_}
