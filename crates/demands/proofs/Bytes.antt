@@ -2,8 +2,8 @@
 use Prim.Native.Nat.{ℕ}
 use mathlib.Core.Bool.{true, cond}
 use mathlib.Core.List.{List, [], _∷_, map}
-use mathlib.Core.Logic.{_≢_}
-use mathlib.Core.Path.{_≡_, refl, subst, sym, _∙_}
+use mathlib.Core.Logic.{_≢_, _⊎_, inl, inr}
+use mathlib.Core.Path.{_≡_, refl, subst, sym, ap, _∙_}
 use borrow.Author.Tests.{eq-eqb, ne-eqb}
 use lib.Dec.{eqb}
 use lib.ListN.{length}
@@ -119,6 +119,20 @@ pub accepted-run : (vs : List (List ℕ)) (l : List ℕ) → accepted l ≡ true
 unfolding run
 accepted-run [] l a = a
 accepted-run (v ∷ vs) l a = accepted-run vs (step l v .image) (accepted-step l v a)
+
+-- a run that changes something leaves the image of the phone that it says
+pub run-written : (vs : List (List ℕ)) (l : List ℕ) → (run l vs ≡ l) ⊎ (run l vs ≡ encode (decode (run l vs)))
+unfolding run
+run-written [] l = inl refl
+run-written (v ∷ vs) l =
+    step-cases (λ o. (run (o .image) vs ≡ l) ⊎ (run (o .image) vs ≡ encode (decode (run (o .image) vs)))) l v (λ z. inr (written (run-written vs _))) (λ z. run-written vs l)
+  where
+    m : List ℕ
+    m = event-done l v .image
+
+    written : (run m vs ≡ m) ⊎ (run m vs ≡ encode (decode (run m vs))) → run m vs ≡ encode (decode (run m vs))
+    written (inl s) = subst (λ n. n ≡ encode (decode n)) (sym s) (sym (ap encode (decode-encode (changed (event-read v 0) (decode l)))))
+    written (inr w) = w
 
 -- the events of a run, less those that have not 24 bytes
 unfoldable pub whole : List (List ℕ) → List Event

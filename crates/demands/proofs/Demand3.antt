@@ -1,7 +1,7 @@
 -- Demand 3: withdrawing grants nothing that was refused, giving refuses nothing that was granted; both also with every executable verified. Assumes nothing.
 use Prim.Native.Nat.{ℕ}
-use mathlib.Core.Bool.{Bool, true, _||_}
-use mathlib.Core.List.{List, [], _∷_}
+use mathlib.Core.Bool.{Bool, true, not, _||_}
+use mathlib.Core.List.{List, [], _∷_, map}
 use mathlib.Core.Logic.{_≢_, _⊎_, inl, inr}
 use mathlib.Core.Path.{_≡_, subst, sym, ap, _∙_}
 use borrow.Author.Tests.{eq-eqb, ne-eqb}
@@ -9,7 +9,7 @@ use lib.Dec.{T, eqb}
 use lib.ListN.{length}
 use Rattle.records.specs.Sizes.{event-size}
 use Rattle.records.specs.Layout.{event-bytes}
-use Rattle.records.specs.Phone.{Phone, decode}
+use Rattle.records.specs.Phone.{Phone, decode, encode}
 use Rattle.records.specs.declared.Event.{Event}
 use Rattle.records.proofs.Records.{length-event, event-read-bytes}
 use Rattle.rules.specs.ImageRules.{accepted}
@@ -19,37 +19,47 @@ use Rattle.rules.specs.Demands.{request-event, verify-event, grants, withdrawin
 use Rattle.rules.proofs.Tests.{is, isnt, or-cases, by-test}
 use Rattle.rules.proofs.Accepted.{Accepted}
 use Rattle.rules.proofs.Accepts.{accepted-out}
-use Rattle.demands.specs.Runs.{is-request, Each-in-turn, Withdrawing-run, Giving-run, verified as image-verified}
+use Rattle.demands.specs.Runs.{event-of, is-request, Each-in-turn, Withdrawing-run, Giving-run, verified as image-verified}
 use Rattle.demands.proofs.After.{after, after-all}
 use Rattle.demands.proofs.Kept.{accepted-after, accepted-after-all}
 use Rattle.demands.proofs.Order.{Under, under-refl, under-trans}
 use Rattle.demands.proofs.Grant.{granted, no-more}
+use Rattle.demands.proofs.Done.{refused-still}
 use Rattle.demands.proofs.Settle.{request-still}
 use Rattle.demands.proofs.Withdraw.{withdrawing-under}
 use Rattle.demands.proofs.Give.{giving-over}
-use Rattle.demands.proofs.Verified.{verified, accepted-verified, under-verified}
-use Rattle.demands.proofs.Bytes.{code-whole, accepted-step, decode-step, step-other, accepted-run, whole, decode-run, whole-bytes}
+use Rattle.demands.proofs.Verified.{verified, accepted-verified, verified-twice, under-verified}
+use Rattle.demands.proofs.Bytes.{code-whole, accepted-step, decode-step, step-other, accepted-run, run-written, whole, decode-run, whole-bytes}
 
--- every event of a run passes the test, or is a request, at the phone that it meets
+-- an event that passes the test at the phone that it meets, or is a request or refused there
+abbrev met : (Phone → Event → Bool) → Phone → Event → Bool
+met f p e = f p e || (is-request e || not (eqb (code-of p e) 0))
+
+-- every event of a run does
 abbrev Each-met : (Phone → Event → Bool) → List Event → Phone → Type 0
 Each-met f [] p = Unit {0}
-Each-met f (e ∷ es) p = T (f p e || is-request e) × Each-met f es (after e p)
+Each-met f (e ∷ es) p = T (met f p e) × Each-met f es (after e p)
 
 -- ---- one event, and a run
 
-one-under : (p : Phone) → Accepted p → (e : Event) → T (withdrawing p e || is-request e) → Under (after e p) p
-one-under p ok e h = go (or-cases (withdrawing p e) (is-request e) h)
+-- what passes the test has the property; a request and what is refused leave the phone as it was
+by-meeting : (P : Phone → Type 0) (f : Phone → Event → Bool) (p : Phone) → Accepted p → (e : Event) → T (met f p e)
+    → (T (f p e) → P (after e p)) → P p → P (after e p)
+by-meeting P f p ok e h passes stays = go (or-cases (f p e) (is-request e || not (eqb (code-of p e) 0)) h)
   where
-    go : T (withdrawing p e) ⊎ T (is-request e) → Under (after e p) p
-    go (inl w) = withdrawing-under p e w
-    go (inr r) = subst (λ q. Under q p) (sym (request-still p ok e (is (e .kind) 15 r))) (under-refl p)
+    still : T (is-request e) ⊎ T (not (eqb (code-of p e) 0)) → after e p ≡ p
+    still (inl r) = request-still p ok e (is (e .kind) 15 r)
+    still (inr n) = refused-still p e n
 
-one-over : (p : Phone) → Accepted p → (e : Event) → T (giving p e || is-request e) → Under p (after e p)
-one-over p ok e h = go (or-cases (giving p e) (is-request e) h)
-  where
-    go : T (giving p e) ⊎ T (is-request e) → Under p (after e p)
-    go (inl g) = giving-over p ok e g
-    go (inr r) = subst (Under p) (sym (request-still p ok e (is (e .kind) 15 r))) (under-refl p)
+    go : T (f p e) ⊎ T (is-request e || not (eqb (code-of p e) 0)) → P (after e p)
+    go (inl t) = passes t
+    go (inr o) = subst P (sym (still (or-cases (is-request e) (not (eqb (code-of p e) 0)) o))) stays
+
+one-under : (p : Phone) → Accepted p → (e : Event) → T (met withdrawing p e) → Under (after e p) p
+one-under p ok e h = by-meeting (λ q. Under q p) withdrawing p ok e h (withdrawing-under p e) (under-refl p)
+
+one-over : (p : Phone) → Accepted p → (e : Event) → T (met giving p e) → Under p (after e p)
+one-over p ok e h = by-meeting (Under p) giving p ok e h (giving-over p ok e) (under-refl p)
 
 run-under : (es : List Event) (p : Phone) → Accepted p → Each-met withdrawing es p → Under (after-all es p) p
 unfolding after-all
@@ -96,14 +106,18 @@ unfolding whole
 each-met f [] l ok h = tt
 each-met f (v ∷ vs) l ok h = go (each-met f vs (step l v .image) (accepted-step l v ok) (h .1))
   where
-    met : length v ≡ event-size → Each-met f (whole vs) (decode (step l v .image)) → Each-met f (whole (v ∷ vs)) (decode l)
-    met n r = rw (eq-eqb (length v) event-size n) (h .0, subst (Each-met f (whole vs)) (decode-step l v ok n) r)
+    counted : length v ≡ event-size → Each-met f (whole vs) (decode (step l v .image)) → Each-met f (whole (v ∷ vs)) (decode l)
+    counted n r =
+        rw (eq-eqb (length v) event-size n) (
+          subst (λ c. T (f (decode l) (event-of v) || (is-request (event-of v) || not (eqb c 0)))) (code-whole l v ok n) (h .0),
+          subst (Each-met f (whole vs)) (decode-step l v ok n) r,
+        )
 
     passed : length v ≢ event-size → Each-met f (whole vs) (decode (step l v .image)) → Each-met f (whole (v ∷ vs)) (decode l)
     passed n r = rw (ne-eqb (length v) event-size n) (subst (λ m. Each-met f (whole vs) (decode m)) (step-other l v n) r)
 
     go : Each-met f (whole vs) (decode (step l v .image)) → Each-met f (whole (v ∷ vs)) (decode l)
-    go r = by-test (eqb (length v) event-size) (λ t. met (is (length v) event-size t) r) (λ t. passed (isnt (length v) event-size t) r)
+    go r = by-test (eqb (length v) event-size) (λ t. counted (is (length v) event-size t) r) (λ t. passed (isnt (length v) event-size t) r)
 
 module _ (l : List ℕ) (ok : accepted l ≡ true) where
   is-accepted : Accepted (decode l)
@@ -116,6 +130,35 @@ module _ (l : List ℕ) (ok : accepted l ≡ true) where
   grants-verified : (n a : ℕ) → grants (image-verified l) n a ≡ granted (verified (decode l)) n a
   unfolding image-verified
   grants-verified n a = grants-is (image-verified l) (accepted-run _ l ok) n a ∙ ap (λ p. granted p n a) decode-verified
+
+  then-accepted : accepted (image-verified l) ≡ true
+  unfolding image-verified
+  then-accepted = accepted-run _ l ok
+
+pub verified-again : (l : List ℕ) → accepted l ≡ true → image-verified (image-verified l) ≡ image-verified l
+unfolding image-verified
+verified-again l ok = go (run-written (verifies l) l)
+  where
+    verifies : List ℕ → List (List ℕ)
+    verifies m = map (λ x. event-bytes (verify-event (x .id))) (decode m .executables)
+
+    once : List ℕ
+    once = run l (verifies l)
+
+    same : decode (run once (verifies once)) ≡ decode once
+    same =
+        decode-verified once (then-accepted l ok)
+        ∙ ap verified (decode-verified l ok)
+        ∙ verified-twice (decode l) (is-accepted l ok)
+        ∙ sym (decode-verified l ok)
+
+    twice : once ≡ encode (decode once) → (run once (verifies once) ≡ once) ⊎ (run once (verifies once) ≡ encode (decode (run once (verifies once)))) → run once (verifies once) ≡ once
+    twice w (inl s) = s
+    twice w (inr a) = a ∙ ap encode same ∙ sym w
+
+    go : (once ≡ l) ⊎ (once ≡ encode (decode once)) → run once (verifies once) ≡ once
+    go (inl s) = ap (λ m. run m (verifies m)) s
+    go (inr w) = twice w (run-written (verifies once) once)
 
 module _ (l : List ℕ) (ok : accepted l ≡ true) (vs : List (List ℕ)) where
   then : accepted (run l vs) ≡ true
@@ -140,3 +183,15 @@ module _ (l : List ℕ) (ok : accepted l ≡ true) (vs : List (List ℕ)) where
   giving-refuses-nothing-verified g n a =
       rw (grants-verified l ok n a, grants-verified (run l vs) then n a, decode-run vs l ok)
       (more-granted-verified (decode l) (is-accepted l ok) (whole vs) (each-met giving vs l ok g) n a)
+
+-- the run starts where every application is verified
+module _ (l : List ℕ) (ok : accepted l ≡ true) (vs : List (List ℕ)) where
+  pub withdrawing-grants-nothing-from-verified : Withdrawing-run (image-verified l) vs → (n a : ℕ)
+      → T (grants (image-verified (run (image-verified l) vs)) n a) → T (grants (image-verified l) n a)
+  withdrawing-grants-nothing-from-verified w n a g =
+      subst (λ m. T (grants m n a)) (verified-again l ok) (withdrawing-grants-nothing-verified (image-verified l) (then-accepted l ok) vs w n a g)
+
+  pub giving-refuses-nothing-from-verified : Giving-run (image-verified l) vs → (n a : ℕ)
+      → T (grants (image-verified l) n a) → T (grants (image-verified (run (image-verified l) vs)) n a)
+  giving-refuses-nothing-from-verified w n a g =
+      giving-refuses-nothing-verified (image-verified l) (then-accepted l ok) vs w n a (subst (λ m. T (grants m n a)) (sym (verified-again l ok)) g)

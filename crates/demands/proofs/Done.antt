@@ -1,5 +1,7 @@
 -- How an event is seen to be done, and the phone after it, done or refused. Assumes nothing.
 use mathlib.Core.Bool.{Bool, true, false, cond, not, _&&_, _||_}
+use mathlib.Core.Path.{_≡_}
+use borrow.Author.Tests.{ne-eqb}
 use lib.Dec.{T, eqb, leb}
 use lib.ListN.{getD}
 use Rattle.records.specs.Phone.{Phone}
@@ -9,7 +11,7 @@ use Rattle.rules.specs.Forms.{forms, no-form, malformed}
 use Rattle.rules.specs.Actors.{may-act, acts-for}
 use Rattle.rules.specs.Codes.{id-unknown, actor-barred, time-back, card-unknown, card-wrong, card-away, id-taken, key-elsewhere, install-of-other, mark-of-other, no-such-root, another-valid, no-free-slot, never, not-permitted, refusals, code-of}
 use Rattle.rules.specs.Effects.{effect, settle, changed}
-use Rattle.rules.proofs.Tests.{and-i, not-intro, first-in}
+use Rattle.rules.proofs.Tests.{and-i, not-intro, isnt, first-in}
 use Rattle.demands.proofs.After.{after}
 use Rattle.demands.proofs.Told.{Told, told}
 
@@ -34,6 +36,11 @@ after-cases P e p done refused = go (eqb (code-of p e) 0) (λ h. done (told p e 
     go : (b : Bool) → (T b → P (settle (effect e p))) → (T (not b) → P p) → P (cond b (settle (effect e p)) p)
     go true d r = d tt
     go false d r = r tt
+
+-- what is refused changes nothing
+pub refused-still : (p : Phone) (e : Event) → T (not (eqb (code-of p e) 0)) → after e p ≡ p
+unfolding after
+refused-still p e n = rw (ne-eqb (code-of p e) 0 (isnt (code-of p e) 0 n))
 
 -- how a test of several parts is seen not to apply
 pub nor-i : (a b : Bool) → T (not a) → T (not b) → T (not (a || b))

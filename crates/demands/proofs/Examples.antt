@@ -24,9 +24,21 @@ clock-201 = bytes 24 0x01_00_0000_0000_00_00_000000c9_00000000_00000000_00000000
 abbrev give-1-0 : List ℕ
 give-1-0 = bytes 24 0x0d_01_0001_0000_00_00_00000000_00000000_00000000_00000000
 
+-- refused where they stand: a card put in by the user, and a record of one byte
+abbrev user-puts-card-2-in : List ℕ
+user-puts-card-2-in = bytes 24 0x02_01_0000_0002_00_00_00000000_00000000_00000000_00000000
+
+abbrev one-byte : List ℕ
+one-byte = bytes 1 0x0c
+
 pub is-withdrawing : Withdrawing-run image (clock-201 ∷ [])
 unfolding computing
 is-withdrawing = (tt, tt)
+
+-- what is refused spoils no run
+pub refused-spoil-nothing : Withdrawing-run image (clock-201 ∷ user-puts-card-2-in ∷ one-byte ∷ clock-201 ∷ [])
+unfolding computing
+refused-spoil-nothing = (tt, (tt, (tt, (tt, tt))))
 
 pub withdrawing-refuses : (grants image 1 1 ≡ true) × (grants (run image (clock-201 ∷ [])) 1 1 ≡ false)
 unfolding computing

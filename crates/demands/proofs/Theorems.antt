@@ -130,7 +130,7 @@ module _ (l : List ℕ) (ok : accepted l ≡ true) where
   pub grants-exact : (n a : ℕ) → T (grants l n a) ↔ Granted (decode l) n a
   grants-exact n a = rw (Demand3.grants-is l ok n a) (granted-exact (decode l) (accepted-out l ok .1) n a)
 
--- ==== Demand 3: of the state that any events, `before`, have led to, and of any run vs from there on
+-- ==== Demand 3: of the state that any events, `before`, have led to, and of any run vs from there on, in which whatever is refused may stand
 
 module _ (l : List ℕ) (ok : accepted l ≡ true) (before vs : List (List ℕ)) where
   -- after withdrawing nothing refused is granted
@@ -141,7 +141,7 @@ module _ (l : List ℕ) (ok : accepted l ≡ true) (before vs : List (List ℕ))
   pub giving-refuses-nothing : Giving-run (run l before) vs → (n a : ℕ) → T (grants (run l before) n a) → T (grants (run (run l before) vs) n a)
   giving-refuses-nothing g = Demand3.giving-refuses-nothing (run l before) (accepted-kept-run l ok before) vs g
 
-  -- both with every application verified before each request
+  -- "both also where every application is verified just before each of the two requests": the run goes on from the state as it was
   pub withdrawing-grants-nothing-verified : Withdrawing-run (run l before) vs → (n a : ℕ)
       → T (grants (verified (run (run l before) vs)) n a) → T (grants (verified (run l before)) n a)
   withdrawing-grants-nothing-verified w = Demand3.withdrawing-grants-nothing-verified (run l before) (accepted-kept-run l ok before) vs w
@@ -149,3 +149,16 @@ module _ (l : List ℕ) (ok : accepted l ≡ true) (before vs : List (List ℕ))
   pub giving-refuses-nothing-verified : Giving-run (run l before) vs → (n a : ℕ)
       → T (grants (verified (run l before)) n a) → T (grants (verified (run (run l before) vs)) n a)
   giving-refuses-nothing-verified g = Demand3.giving-refuses-nothing-verified (run l before) (accepted-kept-run l ok before) vs g
+
+  -- the same read along time: the run goes on from the state in which the first request was made, every application verified
+  pub withdrawing-grants-nothing-from-verified : Withdrawing-run (verified (run l before)) vs → (n a : ℕ)
+      → T (grants (verified (run (verified (run l before)) vs)) n a) → T (grants (verified (run l before)) n a)
+  withdrawing-grants-nothing-from-verified w = Demand3.withdrawing-grants-nothing-from-verified (run l before) (accepted-kept-run l ok before) vs w
+
+  pub giving-refuses-nothing-from-verified : Giving-run (verified (run l before)) vs → (n a : ℕ)
+      → T (grants (verified (run l before)) n a) → T (grants (verified (run (verified (run l before)) vs)) n a)
+  giving-refuses-nothing-from-verified g = Demand3.giving-refuses-nothing-from-verified (run l before) (accepted-kept-run l ok before) vs g
+
+-- on an accepted image verifying every application twice is verifying it once
+pub verified-again : (l : List ℕ) → accepted l ≡ true → verified (verified l) ≡ verified l
+verified-again l ok = Demand3.verified-again l ok

@@ -190,6 +190,15 @@ pub accepted-verified : (p : Phone) → Accepted p → Accepted (verified p)
 unfolding verified
 accepted-verified p ok = accepted-after-all (map (λ x. verify-event (x .id)) (p .executables)) p ok
 
+-- verifying twice is verifying once
+pub verified-twice : (p : Phone) → Accepted p → verified (verified p) ≡ verified p
+verified-twice p ok =
+    let once = verified-is p ok in
+    ap verified once
+    ∙ verified-is (all-verified p) (subst Accepted once (accepted-verified p ok))
+    ∙ ap (λ l. with-executables l p) (map-map (verdict (p .trust)) (verdict (p .trust)) (p .executables))
+    ∙ sym once
+
 -- ---- verifying keeps the order
 
 -- what a key chains to in the lower phone, it chains to in the higher one

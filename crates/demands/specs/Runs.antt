@@ -1,6 +1,6 @@
 -- What the demands say of runs of events, over the bytes of an image and of the events. Definitions only.
 use Prim.Native.Nat.{ℕ, _<_}
-use mathlib.Core.Bool.{Bool, _||_}
+use mathlib.Core.Bool.{Bool, not, _||_}
 use mathlib.Core.List.{List, [], _∷_, map, List·Memᴰ}
 use mathlib.Core.Logic.{_≢_, _⊎_}
 use mathlib.Core.Path.{_≡_}
@@ -15,7 +15,7 @@ use Rattle.rules.specs.Words.{Check, _⇒_}
 use Rattle.rules.specs.Chains.{present, most-links}
 use Rattle.rules.specs.Explicit.{Chain-within}
 use Rattle.rules.specs.ImageRules.{valid-in}
-use Rattle.rules.specs.Codes.{executable-named, executable-known}
+use Rattle.rules.specs.Codes.{executable-named, executable-known, code}
 use Rattle.rules.specs.Step.{step, run}
 use Rattle.rules.specs.Demands.{withdrawing, giving, verify-event}
 
@@ -24,14 +24,23 @@ pub data Applies (n : ℕ) : List Check → Type 0 where
   here : {b : Bool} {l : List Check} → T b → Applies n ((b ⇒ n) ∷ l)
   later : {c : Check} {l : List Check} → Applies n l → Applies n (c ∷ l)
 
+-- what an event's bytes say
+abbrev pub event-of : List ℕ → Event
+event-of v = event-read v 0
+
 -- "A request changes nothing", so it may stand in either run
 abbrev pub is-request : Event → Bool
 is-request e = eqb (e .kind) 15
 
--- every event passes the test in the state that it meets; refused ones may be among them
+-- "Every code other than 0 leaves the image unchanged", so whatever is refused in the state that it meets may stand in either run
+abbrev pub is-refused : List ℕ → List ℕ → Bool
+is-refused l v = not (eqb (code l v) 0)
+
+-- every event passes the test in the state that it meets, or is a request or refused there
 abbrev pub Each-in-turn : (Phone → Event → Bool) → List ℕ → List (List ℕ) → Type 0
 Each-in-turn f l [] = Unit {0}
-Each-in-turn f l (v ∷ vs) = T (f (decode l) (event-read v 0) || is-request (event-read v 0)) × Each-in-turn f (step l v .image) vs
+Each-in-turn f l (v ∷ vs) =
+    T (f (decode l) (event-of v) || (is-request (event-of v) || is-refused l v)) × Each-in-turn f (step l v .image) vs
 
 -- "any run of withdrawing events"
 abbrev pub Withdrawing-run : List ℕ → List (List ℕ) → Type 0
@@ -47,10 +56,7 @@ verified l = run l (map (λ x. event-bytes (verify-event (x .id))) (decode l .ex
 
 -- ---- one event on an image
 
--- what its bytes say, the signing key of the executable that it names, and the phone after it
-abbrev pub event-of : List ℕ → Event
-event-of v = event-read v 0
-
+-- the signing key of the executable that it names, and the phone after it
 abbrev pub key-named : List ℕ → List ℕ → ℕ
 key-named l v = executable-named (decode l) (event-of v .id) .signing
 
