@@ -10,3 +10,4 @@ pub mod Step
 pub mod Demands
 pub mod Computing
 pub mod WorkedRun
+pub mod EachCode
