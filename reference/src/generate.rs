@@ -7,7 +7,8 @@ pub mod damage;
 pub mod events;
 pub mod images;
 
-use crate::bench::split_stream;
+use crate::bench::{self, event_records, split_stream};
+use crate::events::{step, Event};
 use crate::phone::{Header, Phone, OPERATOR};
 use crate::random::Random;
 use events::Style;
@@ -275,6 +276,35 @@ fn noise(random: &mut Random) -> Case {
         description: format!("noise events {count}"),
         stream: stream_on(random, &phone, count, Style::Noise),
     }
+}
+
+/// What is left of the last record of a longer stream: its kind is above the last one.
+const SHORT_END: [u8; 5] = [200, 0, 0, 1, 0];
+
+/// The stream with so many events more, each chosen for the state that it meets, and an end that is no whole record.
+pub fn longer(seed: u64, stream: &[u8], count: usize) -> Result<Vec<u8>, String> {
+    let last = event_records(split_stream(stream).1).last();
+    if last.is_some_and(|record| record.len() < Event::SIZE) {
+        return Err("the stream ends inside an event".to_string());
+    }
+    let image = bench::run(stream)
+        .image
+        .map_err(|broken| format!("the image breaks {broken}"))?;
+    let mut phone = Phone::decode(&image).ok_or("the image cannot be decoded")?;
+    let random = &mut Random::of_case(seed, 0);
+    let mut longer = stream.to_vec();
+    for number in 0..count {
+        let style = match number % 8 {
+            0 => Style::Noise,
+            1 | 2 => Style::SeveralFaults,
+            _ => Style::Aimed,
+        };
+        let record = events::next_event(random, &phone, style);
+        step(&mut phone, &record);
+        longer.extend(record);
+    }
+    longer.extend(SHORT_END);
+    Ok(longer)
 }
 
 #[cfg(test)]

@@ -11,7 +11,7 @@ use std::time::Duration;
 use reference::bench;
 use reference::check::{checked_run, Counts};
 use reference::fuzz::{fuzz, kept_name, write_file, Plan, Until};
-use reference::generate::case;
+use reference::generate::{case, longer};
 use reference::text::{to_bytes, to_text};
 use reference::vectors::run_folder;
 
@@ -27,6 +27,8 @@ usage: reference SUB-COMMAND
   bytes   text form on standard input -> the stream
   vectors DIR
           runs the cases of DIR and prints what the program `vectors` prints
+  longer  --seed S --events N
+          stream on standard input -> the stream, N events more and an end that is no whole event
   cases   --seed S --runs N --into DIR [--most-bytes B]
           writes N cases, of those with an image of at most B bytes: DIR/cases (a line for each), NAME.in, NAME.out and, where the
           image is accepted, NAME.fin; prints what they reach
@@ -75,6 +77,7 @@ fn run(arguments: &[String]) -> Result<(), Failure> {
         "text" => plain(rest, |stream| print(to_text(stream).as_bytes())),
         "bytes" => plain(rest, run_bytes),
         "vectors" => run_vectors(rest),
+        "longer" => run_longer(rest),
         "cases" => run_cases(rest),
         "fuzz" => run_fuzz(rest),
         _ => Err(bad_usage(&format!("there is no sub-command `{name}`"))),
@@ -94,11 +97,15 @@ fn plain(rest: &[String], act: impl Fn(&[u8]) -> Result<(), Failure>) -> Result<
     if let Some(word) = rest.first() {
         return Err(bad_usage(&format!("expected no options, found `{word}`")));
     }
+    act(&read()?)
+}
+
+fn read() -> Result<Vec<u8>, Failure> {
     let mut input = Vec::new();
     std::io::stdin()
         .read_to_end(&mut input)
         .map_err(|error| Trouble(format!("cannot read standard input: {error}")))?;
-    act(&input)
+    Ok(input)
 }
 
 fn print(bytes: &[u8]) -> Result<(), Failure> {
@@ -186,6 +193,14 @@ fn run_vectors(words: &[String]) -> Result<(), Failure> {
         0 => Ok(()),
         differing => Err(Difference(format!("{differing} cases differ"))),
     }
+}
+
+fn run_longer(words: &[String]) -> Result<(), Failure> {
+    let options = Options::of(words, &["--seed", "--events"])?;
+    let seed = options.needed_number("--seed")?;
+    let count = options.needed_number("--events")?;
+    let stream = longer(seed, &read()?, count as usize).map_err(Difference)?;
+    print(&stream)
 }
 
 fn run_cases(words: &[String]) -> Result<(), Failure> {
