@@ -7,12 +7,13 @@ use mathlib.Core.Path.{_≡_, refl, subst, sym, ap, _∙_}
 use borrow.Author.Tests.{eq-eqb, ne-eqb}
 use lib.Dec.{eqb}
 use lib.ListN.{length}
+use Rattle.octets.proofs.Laws.{Bytes}
 use Rattle.records.specs.Sizes.{event-size}
 use Rattle.records.specs.Layout.{event-read, event-bytes}
-use Rattle.records.specs.Phone.{Phone, decode, encode}
+use Rattle.records.specs.Phone.{Phone, decode, encode, certificate-at}
 use Rattle.records.specs.declared.Event.{Event}
 use Rattle.records.proofs.Records.{event-read-bytes}
-use Rattle.records.proofs.RoundTrip.{decode-encode, length-encode}
+use Rattle.records.proofs.RoundTrip.{decode-encode, length-encode, frame}
 use Rattle.rules.specs.Words.{first}
 use Rattle.rules.specs.ImageRules.{accepted}
 use Rattle.rules.specs.Codes.{rows, code-of, code}
@@ -20,9 +21,11 @@ use Rattle.rules.specs.Effects.{changed}
 use Rattle.rules.specs.Step.{refused, done, Outcome, step, run}
 use Rattle.rules.proofs.Tests.{by-test, is, si, isnt, not-elim, first-out}
 use Rattle.rules.proofs.Accepts.{T-true, accepted-out, accepted-in}
+use Rattle.rules.proofs.Marks.{Marked-by, changed-marks}
 use Rattle.demands.proofs.After.{after, after-all}
 use Rattle.demands.proofs.Shape.{shape-changed, sized-shape, mode-changed}
 use Rattle.demands.proofs.Kept.{accepted-changed}
+use Rattle.demands.proofs.Settle.{request-changed}
 use Rattle.demands.proofs.Header.{fitting, length-framed, framed-fitting}
 
 -- ---- the code
@@ -107,6 +110,30 @@ decode-step l v a n =
 -- one of any other length changes nothing
 pub step-other : (l v : List ℕ) → length v ≢ event-size → step l v .image ≡ l
 step-other l v n = step-cases (λ o. o .image ≡ l) l v (λ z. absurd (n (code-whole-out l v z .event))) (λ z. refl)
+
+-- a certificate that is valid after an event was valid before it, or the event marks or installs it
+pub marks-step : (l v : List ℕ) (i : ℕ) → certificate-at (decode (step l v .image)) i .mark ≡ 1 → Marked-by (event-read v 0) (certificate-at (decode l) i)
+marks-step l v i =
+    let e = event-read v 0 in
+    let p = decode l in
+    step-cases (λ o. certificate-at (decode (o .image)) i .mark ≡ 1 → Marked-by e (certificate-at p i)) l v
+    (λ z. rw (decode-encode (changed e p)) (changed-marks e p i))
+    (λ z h. inl h)
+
+-- a request changes nothing: the phone, of any numbers, and the image, of bytes
+pub request-phone : (l v : List ℕ) → event-read v 0 .kind ≡ 15 → decode (step l v .image) ≡ decode l
+request-phone l v k =
+    step-cases (λ o. decode (o .image) ≡ decode l) l v
+    (λ z. let ok = accepted-out l (code-whole-out l v z .image) in decode-encode (changed (event-read v 0) (decode l)) ∙ request-changed (decode l) (ok .1) (event-read v 0) k)
+    (λ z. refl)
+
+pub request-step : (l v : List ℕ) → Bytes l → event-read v 0 .kind ≡ 15 → step l v .image ≡ l
+request-step l v b k =
+    step-cases (λ o. o .image ≡ l) l v
+    (λ z.
+    let ok = accepted-out l (code-whole-out l v z .image) in
+    ap encode (request-changed (decode l) (ok .1) (event-read v 0) k) ∙ sym (frame l b (ok .0) .shaped))
+    (λ z. refl)
 
 -- ---- a run
 

@@ -19,7 +19,7 @@ use Rattle.rules.specs.ImageRules.{free-executable}
 use Rattle.rules.specs.Forms.{with-kind, executable-form}
 use Rattle.rules.specs.Codes.{is-executable, executable-known, id-taken}
 use Rattle.rules.specs.Effects.{tick, card-in, card-out, card-rule, power-up, install-certificate, delete-certificate, mark-valid, mark-invalid, message}
-use Rattle.rules.specs.Effects.{install-executable, delete-executable, verify, give, withdraw, request, effect, settled, settle}
+use Rattle.rules.specs.Effects.{new-executable, install-executable, delete-executable, verify, give, withdraw, request, effect, settled, settle}
 use Rattle.rules.proofs.Tests.{tests, is, si, isnt, nor-l, nor-r}
 use Rattle.rules.proofs.Lists.{none-out, fill-out}
 use Rattle.rules.proofs.Distinct.{distinct-map, distinct-fill}
@@ -72,25 +72,22 @@ programs-change n l i g nz same fits ok =
 
 -- ---- the events
 
--- "id, key = signing key; domain 0, no permissions"
-abbrev new-executable : ℕ → ℕ → Executable
-new-executable i k = record { id = i; domain = 0; blank = 0; signing = k; permissions = 0 }
+programs-install : (n : ℕ) (l : List Executable) (e : Event) → e .id ≢ 0 → Programs n l → ((x : Executable) → List·Memᴰ x l → x .id ≢ e .id)
+    → Programs n (fill free-executable (new-executable e) l)
+programs-install n l e nz ok fresh =
+    record {
+      slots = λ x m. slots x (fill-out free-executable (new-executable e) l x m);
+      ids = distinct-fill (λ x. x .id) free-executable (new-executable e) l fresh (ok .ids);
+    }
+  where
+    stored : Stored n (new-executable e)
+    stored = record { id = nz; domain = omega arith; blank = refl; permissions = pow-pos n }
+
+    slots : (x : Executable) → (x ≡ new-executable e) ⊎ List·Memᴰ x l → (x ≡ no-executable) ⊎ Stored n x
+    slots x (inl z) = inr (subst (Stored n) (sym z) stored)
+    slots x (inr m) = ok .slots x m
 
 module _ (n : ℕ) (l : List Executable) (i : ℕ) (nz : i ≢ 0) (ok : Programs n l) where
-  programs-install : (k : ℕ) → ((x : Executable) → List·Memᴰ x l → x .id ≢ i) → Programs n (fill free-executable (new-executable i k) l)
-  programs-install k fresh =
-      record { slots = λ x m. slots x (fill-out free-executable new l x m); ids = distinct-fill (λ x. x .id) free-executable new l fresh (ok .ids) }
-    where
-      new : Executable
-      new = new-executable i k
-
-      stored : Stored n new
-      stored = record { id = nz; domain = omega arith; blank = refl; permissions = pow-pos n }
-
-      slots : (x : Executable) → (x ≡ new) ⊎ List·Memᴰ x l → (x ≡ no-executable) ⊎ Stored n x
-      slots x (inl z) = inr (subst (Stored n) (sym z) stored)
-      slots x (inr m) = ok .slots x m
-
   programs-delete : Programs n (change (is-executable i) (λ x. no-executable) l)
   programs-delete = programs-change n l i (λ x. no-executable) nz (λ x z. absurd (z refl)) (λ x s. inl refl) ok
 
@@ -147,7 +144,7 @@ module _ (p : Phone) (ok : Programs (length (p .table)) (p .executables)) where
   installed e t =
       let f = t .formed in
       let h = t .fresh in
-      programs-install (length (p .table)) (p .executables) (e .id) (search tests) ok (e .key)
+      programs-install (length (p .table)) (p .executables) (with-kind 10 e) (search tests) ok
       (λ x m z. none-out (is-executable (e .id)) (p .executables) (search tests) x m (si (x .id) (e .id) z))
 
   pub programs-effect : (e : Event) → Told p e → Programs (length (p .table)) (effect e p .executables)

@@ -2,15 +2,15 @@
 -- l is an image and v an event, both any bytes; vs is a run of events, refused ones among them.
 -- What the statements speak of: `step`, `run` (rules, specs/Step), `code`, `rows` (specs/Codes), `accepted` (specs/ImageRules),
 -- `grants` (specs/Demands), `Chain-within`, `Shortest` (specs/Explicit), and here specs/Runs and specs/Frames.
-use Prim.Native.Nat.{ℕ, _≤_}
+use Prim.Native.Nat.{ℕ, _≤_, _<_}
 use mathlib.Core.Bool.{true}
 use mathlib.Core.List.{List}
 use mathlib.Core.Logic.{_≢_, _⊎_, _↔_}
 use mathlib.Core.Path.{_≡_, ap, _∙_}
 use native.Mathlib.Omega.{arith}
 use lib.Dec.{T}
-use lib.ListN.{length}
-use Rattle.records.specs.Phone.{decode, encode}
+use lib.ListN.{length, getD}
+use Rattle.records.specs.Phone.{decode, encode, certificate-at}
 use Rattle.records.specs.declared.Certificate.{Certificate}
 use Rattle.records.proofs.RoundTrip.{decode-encode}
 use Rattle.rules.specs.Chains.{most-links}
@@ -93,6 +93,21 @@ module _ (l v : List ℕ) where
   -- and all else is kept
   pub event-frame : code l v ≡ 0 → Framed-change (event-of v) (decode l) (phone-after l v)
   event-frame h = rw (event-phone h) (framed-changed (event-of v) (decode l) (si _ 0 (Bytes.code-whole-out l v h .code)))
+
+  -- "No rule marks a key valid by itself.": a slot that is valid was valid before, or this event is "mark valid" of its id, or an install into it
+  pub no-mark-by-itself : (i : ℕ) → certificate-at (phone-after l v) i .mark ≡ 1
+      → (certificate-at (decode l) i .mark ≡ 1)
+      ⊎ ((event-of v .kind ≡ 7) × (certificate-at (decode l) i .id ≡ event-of v .id))
+      ⊎ ((event-of v .kind ≡ 5) × (certificate-at (decode l) i .id ≡ 0))
+  no-mark-by-itself i h = Bytes.marks-step l v i h
+
+  -- "A request changes nothing.": not a byte of an image of bytes
+  pub request-changes-nothing : ((i : ℕ) → getD l i 0 < 256) → event-of v .kind ≡ 15 → step l v .image ≡ l
+  request-changes-nothing b k = Bytes.request-step l v b k
+
+  -- and not what an image says, whatever numbers stand in it
+  pub request-keeps-phone : event-of v .kind ≡ 15 → phone-after l v ≡ decode l
+  request-keeps-phone k = Bytes.request-phone l v k
 
   -- "I1–I8" hold after every event
   pub accepted-kept : accepted l ≡ true → accepted (step l v .image) ≡ true

@@ -8,6 +8,7 @@ pub mod Accepts
 pub mod Rows
 pub mod Roots
 pub mod Changes
+pub mod Marks
 pub mod Least
 pub mod Loops
 pub mod Keys

@@ -83,11 +83,11 @@ message e p =
     with-mode (e .third) (with-certificates (change third-party-root (λ c. enabling (enabled-by e c) c) (p .trust .certificates)) p)
 
 -- 10: "id, key = signing key; domain 0, no permissions"
+abbrev pub new-executable : Event → Executable
+new-executable e = record { id = e .id; domain = 0; blank = 0; signing = e .key; permissions = 0 }
+
 unfoldable pub install-executable : Event → Phone → Phone
-install-executable e p =
-    with-executables
-    (fill free-executable (record { id = e .id; domain = 0; blank = 0; signing = e .key; permissions = 0 }) (p .executables))
-    p
+install-executable e p = with-executables (fill free-executable (new-executable e) (p .executables)) p
 
 -- an executable by its id, changed
 abbrev pub change-executable : Event → (Executable → Executable) → Phone → Phone
