@@ -25,4 +25,5 @@ pub mod Frame
 pub mod Heard
 pub mod Answers
 pub mod Examples
+pub mod Pinned
 pub mod Theorems

@@ -11,3 +11,4 @@ pub mod Demands
 pub mod Computing
 pub mod WorkedRun
 pub mod EachCode
+pub mod WhichList

@@ -3,7 +3,7 @@ use Prim.Native.Nat.{ℕ}
 use mathlib.Core.Bool.{true}
 use mathlib.Core.List.{List, [], _∷_, _++_, map}
 use mathlib.Core.Path.{_≡_, refl}
-use lib.ListN.{getD, take}
+use lib.ListN.{length, getD, take}
 use Rattle.octets.specs.Octets.{bytes}
 use Rattle.records.specs.Phone.{decode}
 use Rattle.rules.specs.declared.Answer.{Answer}
@@ -144,6 +144,9 @@ heard b = step (run (b .start) (b .before)) (b .event) .answer
 pub chains-image-accepted : accepted chains-image ≡ true
 unfolding computing
 chains-image-accepted = refl
+
+pub ten-boundaries : length boundaries ≡ 10
+ten-boundaries = refl
 
 -- "These ten are shown to hold for the written rules, as one list under one claim."
 pub boundaries-hold : map heard boundaries ≡ map (λ b. b .expected) boundaries
