@@ -2,6 +2,7 @@ pub mod Finite
 pub mod Rows
 pub mod Codes
 pub mod Plans
+pub mod Rooms
 pub mod Named
 pub mod Forms
 pub mod Listed

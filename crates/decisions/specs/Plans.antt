@@ -1,6 +1,6 @@
 -- What is decided of an event before anything is written: its code, and the slot that it is about. Definitions only.
 use Prim.Native.Nat.{ℕ, _+_, _<_}
-use mathlib.Core.Bool.{true, not, _&&_}
+use mathlib.Core.Bool.{true, cond, not, _&&_}
 use mathlib.Core.List.{List, [], _∷_}
 use mathlib.Core.Path.{_≡_}
 use lib.Dec.{eqb}
@@ -21,35 +21,40 @@ use Rattle.decisions.specs.declared.Plan.{Plan}
 abbrev pub seldom : Event → ℕ
 seldom e = e .third + e .fourth + e .verifying + e .owner + e .expiry
 
--- the code of e as an event of kind k; where it is 0, the slot is the one at place, of n
-pub record Planned (k : ℕ) (p : Phone) (e : Event) (place n : ℕ) (r : Plan) : Type 0 where
-  pub code : r .code ≡ code-of p (with-kind k e)
-  pub named : r .code ≡ 0 → r .slot ≡ place
+-- a code, and the slot beside it: a refused event is about no slot, and says 0
+abbrev pub plan : ℕ → ℕ → Plan
+plan code place = record { code = code; slot = cond (eqb code 0) place 0 }
+
+-- the whole plan, and what follows from it: a slot that is acted on is one of n
+pub record Planned (code place n : ℕ) (r : Plan) : Type 0 where
+  pub exact : r ≡ plan code place
   pub within : r .code ≡ 0 → r .slot < n
 
--- the same for the certificate that the event names, and for a free slot for one
+-- for e as an event of kind k: the certificate that it names, and a free slot for one
 abbrev pub On-certificate : ℕ → Phone → Event → Plan → Type 0
-On-certificate k p e r = Planned k p e (first-place (has-id (e .id)) (p .trust .certificates)) (length (p .trust .certificates)) r
+On-certificate k p e r =
+    Planned (code-of p (with-kind k e)) (first-place (has-id (e .id)) (p .trust .certificates)) (length (p .trust .certificates)) r
 
 abbrev pub For-certificate : ℕ → Phone → Event → Plan → Type 0
-For-certificate k p e r = Planned k p e (first-place (has-id 0) (p .trust .certificates)) (length (p .trust .certificates)) r
+For-certificate k p e r =
+    Planned (code-of p (with-kind k e)) (first-place (has-id 0) (p .trust .certificates)) (length (p .trust .certificates)) r
 
--- the same for the executable that the event names, and for a free slot for one
+-- the same for the executable that it names, and for a free slot for one
 abbrev pub On-executable : ℕ → Phone → Event → Plan → Type 0
-On-executable k p e r = Planned k p e (first-place (is-executable (e .id)) (p .executables)) (length (p .executables)) r
+On-executable k p e r =
+    Planned (code-of p (with-kind k e)) (first-place (is-executable (e .id)) (p .executables)) (length (p .executables)) r
 
 abbrev pub For-executable : ℕ → Phone → Event → Plan → Type 0
-For-executable k p e r = Planned k p e (first-place (is-executable 0) (p .executables)) (length (p .executables)) r
+For-executable k p e r =
+    Planned (code-of p (with-kind k e)) (first-place (is-executable 0) (p .executables)) (length (p .executables)) r
 
 -- what stands against an event of kind k on the executable that it names, besides its form
 abbrev pub naming-rows : ℕ → Phone → Event → List Check
 naming-rows k p e = (not (executable-known p (e .id)) ⇒ 3) ∷ (not (may-act k 0 (e .actor) && true) ⇒ 4) ∷ []
 
--- an executable that is known and may be acted on: the slot is its own
-pub record Named (k : ℕ) (p : Phone) (e : Event) (r : Plan) : Type 0 where
-  pub code : r .code ≡ first (naming-rows k p e)
-  pub named : r .code ≡ 0 → r .slot ≡ first-place (is-executable (e .id)) (p .executables)
-  pub within : r .code ≡ 0 → r .slot < length (p .executables)
+-- the executable that is named, by these rows alone
+abbrev pub Named : ℕ → Phone → Event → Plan → Type 0
+Named k p e r = Planned (first (naming-rows k p e)) (first-place (is-executable (e .id)) (p .executables)) (length (p .executables)) r
 
 -- what stands against a request by the table byte for the executable's domain
 abbrev pub table-rows : Phone → Executable → ℕ → List Check

@@ -1,4 +1,6 @@
 // What is decided of an event, on an image that nothing is written to: who may act, the form of each kind, and its code.
+use lookup::CertificateRoom;
+use lookup::Room;
 use records::Certificate;
 use records::Event;
 use records::Executable;
@@ -196,7 +198,7 @@ fn message_form(e: Event) -> bool
 
 // ---- the code of each kind
 
-// A code, and where it is 0 the slot of the record that the event is about.
+// A code, and the slot of the record that the event is about: 0 where the event is refused.
 pub struct Plan {
     pub code: u8,
     pub slot: usize,
@@ -336,22 +338,23 @@ pub fn install_certificate(s: &[u8], e: Event) -> Plan
     if !chain::is_present(s, c) {
         return Plan { code: 8, slot: 0 };
     }
-    let slots = image::certificate_slots(s);
-    let room = lookup::certificate_room(s, e.id, e.key, e.fourth);
-    if room.taken {
-        return Plan { code: 9, slot: 0 };
+    let other = of_other_card(s, c);
+    match lookup::certificate_room(s, e.id, e.key, e.fourth) {
+        CertificateRoom::Taken => Plan { code: 9, slot: 0 },
+        CertificateRoom::Elsewhere => Plan { code: 10, slot: 0 },
+        CertificateRoom::Full => {
+            if other {
+                return Plan { code: 11, slot: 0 };
+            }
+            Plan { code: 14, slot: 0 }
+        }
+        CertificateRoom::Free(slot) => {
+            if other {
+                return Plan { code: 11, slot: 0 };
+            }
+            Plan { code: 0, slot }
+        }
     }
-    if room.elsewhere {
-        return Plan { code: 10, slot: 0 };
-    }
-    if of_other_card(s, c) {
-        return Plan { code: 11, slot: 0 };
-    }
-    let slot = room.slot;
-    if slots <= slot {
-        return Plan { code: 14, slot: 0 };
-    }
-    Plan { code: 0, slot }
 }
 
 // 6
@@ -538,16 +541,11 @@ pub fn install_executable(s: &[u8], e: Event) -> Plan
     if !may_act(10, 0, e.actor) {
         return Plan { code: 4, slot: 0 };
     }
-    let slots = image::executable_slots(s);
-    let room = lookup::executable_room(s, e.id);
-    if room.taken {
-        return Plan { code: 9, slot: 0 };
+    match lookup::executable_room(s, e.id) {
+        Room::Taken => Plan { code: 9, slot: 0 },
+        Room::Full => Plan { code: 14, slot: 0 },
+        Room::Free(slot) => Plan { code: 0, slot },
     }
-    let slot = room.slot;
-    if slots <= slot {
-        return Plan { code: 14, slot: 0 };
-    }
-    Plan { code: 0, slot }
 }
 
 // What stands against an event of a kind on the executable that it names, besides its form.
@@ -645,8 +643,12 @@ pub fn request(s: &[u8], e: Event) -> Plan
         return plan;
     }
     let slot = plan.slot;
-    Plan {
-        code: table_says(s, image::executable(s, slot), e.second),
-        slot,
+    let told = table_says(s, image::executable(s, slot), e.second);
+    if told != 0 {
+        return Plan {
+            code: told,
+            slot: 0,
+        };
     }
+    Plan { code: 0, slot }
 }

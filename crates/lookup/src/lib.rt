@@ -1,16 +1,14 @@
 // Records found: a certificate or an executable by its id, a card by its number, and what the rules ask of them.
 use records::Certificate;
 use records::image;
-ghost use mathlib.Core.Bool.{false, not, _&&_};
+ghost use mathlib.Core.Bool.{_&&_};
 ghost use mathlib.Core.Path.{_≡_};
 ghost use lib.Dec.{eqb};
-ghost use lib.ListN.{length};
 ghost use Rattle.records.specs.Phone.{decode};
 ghost use Rattle.records.specs.Frame.{Framed};
-ghost use Rattle.rules.specs.Words.{any};
 ghost use Rattle.rules.specs.ImageRules.{in-card-table, known-place, operator-of, valid-in, has-valid-operator};
 ghost use Rattle.rules.specs.Codes.{has-id, is-executable};
-ghost use Rattle.lookup.specs.Places.{first-place};
+ghost use Rattle.lookup.specs.Places.{first-place, in-another, executable-room, certificate-room};
 
 // The slot of the certificate with this id, or the number of slots where there is none. Id 0 finds the lowest free slot.
 pub fn certificate_slot(s: &[u8], id: u16) -> usize
@@ -44,16 +42,17 @@ pub fn executable_slot(s: &[u8], id: u16) -> usize
     slots
 }
 
-// Whether an id is taken, and where it is not the lowest free slot, or the number of slots where there is none.
-pub struct Room {
-    pub taken: bool,
-    pub slot: usize,
+// What an install of an executable finds: its id taken, no free slot, or the lowest free one.
+pub enum Room {
+    Taken,
+    Full,
+    Free(usize),
 }
 
 // One sweep for an install, from the last slot down: the last free slot met is the lowest.
 pub fn executable_room(s: &[u8], id: u16) -> Room
     requires { ⌜ Framed (now s) ⌝ }
-    ensures { λ r. ⌜ (r .taken ≡ any (is-executable id) (decode (now (s .entry)) .executables)) × (r .taken ≡ false → r .slot ≡ first-place (is-executable 0) (decode (now (s .entry)) .executables)) ⌝ }
+    ensures { λ r. ⌜ r ≡ executable-room id (decode (now (s .entry)) .executables) ⌝ }
 {
     let slots = image::executable_slots(s);
     let mut slot = slots;
@@ -61,60 +60,65 @@ pub fn executable_room(s: &[u8], id: u16) -> Room
     while 0 < i {
         i -= 1;
         if image::executable_has_id(s, i, id) {
-            return Room {
-                taken: true,
-                slot: 0,
-            };
+            return Room::Taken;
         }
         if !image::executable_has_id(s, i, 0) {
             continue;
         }
         slot = i;
     }
-    Room { taken: false, slot }
+    if slots <= slot {
+        return Room::Full;
+    }
+    Room::Free(slot)
 }
 
-// The same for a certificate, with whether a certificate of another domain has the key; where one has, the slot tells nothing.
-pub struct CertificateRoom {
-    pub taken: bool,
-    pub elsewhere: bool,
-    pub slot: usize,
+// The same for a certificate, whose key may also stand in another domain.
+pub enum CertificateRoom {
+    Taken,
+    Elsewhere,
+    Full,
+    Free(usize),
+}
+
+// Whether c has the key in another domain. Most keys differ in their low byte, so that is asked first.
+fn in_another(c: Certificate, key: u32, domain: u8) -> bool
+    ensures { λ r. ⌜ r ≡ in-another key domain c ⌝ }
+{
+    if c.key % 256 != key % 256 {
+        return false;
+    }
+    (c.key / 256 == key / 256) & (c.domain != domain)
 }
 
 pub fn certificate_room(s: &[u8], id: u16, key: u32, domain: u8) -> CertificateRoom
     requires { ⌜ Framed (now s) ⌝ }
-    ensures { λ r. ⌜ (r .taken ≡ any (has-id id) (decode (now (s .entry)) .trust .certificates)) × (r .taken ≡ false → r .elsewhere ≡ any (λ c. eqb (c .key) key && not (eqb (c .domain) domain)) (decode (now (s .entry)) .trust .certificates)) × (r .taken ≡ false → r .elsewhere ≡ false → r .slot ≡ first-place (has-id 0) (decode (now (s .entry)) .trust .certificates)) ⌝ }
+    ensures { λ r. ⌜ r ≡ certificate-room id key domain (decode (now (s .entry)) .trust .certificates) ⌝ }
 {
     let slots = image::certificate_slots(s);
     let mut slot = slots;
     let mut i = slots;
     while 0 < i {
         i -= 1;
-        if image::certificate_has_id(s, i, id) {
-            return CertificateRoom {
-                taken: true,
-                elsewhere: false,
-                slot: 0,
-            };
-        }
         let c = image::certificate(s, i);
-        if (c.key == key) & (c.domain != domain) {
-            return CertificateRoom {
-                taken: certificate_slot(s, id) < slots,
-                elsewhere: true,
-                slot: 0,
-            };
+        if c.id == id {
+            return CertificateRoom::Taken;
         }
-        if !image::certificate_has_id(s, i, 0) {
+        if in_another(c, key, domain) {
+            if certificate_slot(s, id) < slots {
+                return CertificateRoom::Taken;
+            }
+            return CertificateRoom::Elsewhere;
+        }
+        if c.id != 0 {
             continue;
         }
         slot = i;
     }
-    CertificateRoom {
-        taken: false,
-        elsewhere: false,
-        slot,
+    if slots <= slot {
+        return CertificateRoom::Full;
     }
+    CertificateRoom::Free(slot)
 }
 
 pub fn in_card_table(s: &[u8], n: u16) -> bool

@@ -1,18 +1,16 @@
 use Prim.Native.Nat.{ℕ}
-use mathlib.Core.Bool.{not, _&&_}
+use mathlib.Core.Bool.{cond}
 use mathlib.Core.Path.{_≡_, sym, ap, _∙_}
 use native.Mathlib.Omega.{arith}
-use lib.Dec.{eqb}
 use lib.ListN.{drop}
 use Rattle.records.specs.Phone.{decode}
 use Rattle.rules.specs.Forms.{with-kind, new-certificate}
-use Rattle.rules.specs.Words.{any}
-use Rattle.rules.specs.Codes.{has-id, certificate-known, code-of}
-use Rattle.lookup.specs.Places.{first-place}
-use Rattle.lookup.proofs.Places.{place-none, place-some}
-use Rattle.decisions.proofs.Rows.{Gives, none, here, next, says}
+use Rattle.rules.specs.Codes.{certificate-known, code-of}
+use Rattle.lookup.specs.declared.CertificateRoom.{CertificateRoom}
+use Rattle.decisions.proofs.Rows.{Gives, here, next, rest, says}
 use Rattle.decisions.proofs.Codes.{install-rows, install-told}
 use Rattle.decisions.proofs.Plans.{refused, done}
+use Rattle.decisions.proofs.Rooms.{certificate-code, certificate-told, certificate-filled}
 use Rattle.decisions.proofs.Forms.{domain-below}
 use borrow.Author.Needs.{needs}
 use Rattle.decisions.proofs.install_certificate.Statement.{statement}
@@ -40,24 +38,6 @@ past-3 c g = past-2 (c .before .before) (next (says (c .before .known-place .ens
 
 past-4 : (c : tie.Else4) {r : ℕ} → Past 4 (c .before .before .before .before .before .before .before .before) r
 past-4 c g = past-3 (c .before .before) (next (says (c .before .is-present .ensures) (c .if4 .left)) g)
-
-past-5 : (c : tie.Else5) {r : ℕ} → Past 5 (c .before .before .before .before .before .before .before .before .before .before .before) r
-unfolding certificate-known
-past-5 c g = past-4 (c .before .before .before) (next (sym (c .before .certificate-room .ensures .0) ∙ c .if5 .left) g)
-
--- where the id is new, the sweep tells of the key too
-elsewhere : (c : tie.Else5) → let a = c .before .before .before .before .before .before .before .before .before .before .before .before .before .before .args in c .before .certificate-room .result .elsewhere ≡ any (λ x. eqb (x .key) (a .e .key) && not (eqb (x .domain) (a .e .fourth))) (decode (a .s .now) .trust .certificates)
-elsewhere c = c .before .certificate-room .ensures .1 (c .if5 .left)
-
-past-6 : (c : tie.Else6) {r : ℕ} → Past 6 (c .before .before .before .before .before .before .before .before .before .before .before .before) r
-past-6 c g = past-5 (c .before) (next (sym (elsewhere (c .before)) ∙ c .if6 .left) g)
-
--- and where no other domain has the key, the slot is the lowest free one
-free : (c : tie.Else6) → c .before .before .certificate-room .result .slot ≡ first-place (has-id 0) (decode (c .before .before .before .before .before .before .before .before .before .before .before .before .before .before .before .args .s .now) .trust .certificates)
-free c = c .before .before .certificate-room .ensures .2 (c .before .if5 .left) (c .if6 .left)
-
-past-7 : (c : tie.Else7) {r : ℕ} → Past 7 (c .before .before .before .before .before .before .before .before .before .before .before .before .before .before) r
-past-7 c g = past-6 (c .before .before) (next (sym (c .before .of-other-card .ensures) ∙ c .if7 .left) g)
 
 mode-requires : tie.Need-mode-requires
 mode-requires c κs = search needs
@@ -91,35 +71,50 @@ is-present-requires c κs = search needs
 returns-4 : tie.Need-returns-4
 returns-4 c = refused (omega arith) (past-3 (c .before .before) (here (says (c .before .is-present .ensures) (c .if4 .taken))))
 
-certificate-slots-requires : tie.Need-certificate-slots-requires
-certificate-slots-requires c κs = search needs
+of-other-card-requires : tie.Need-of-other-card-requires
+of-other-card-requires c κs = search needs
 
 certificate-room-requires : tie.Need-certificate-room-requires
 certificate-room-requires c κs = search needs
 
-returns-5 : tie.Need-returns-5
+enum-told : tie.Need-enum-told
+enum-told c = search needs
+
+enum-told-2 : tie.Need-enum-told-2
+enum-told-2 c = search needs
+
+enum-told-3 : tie.Need-enum-told-3
+enum-told-3 c = search needs
+
+enum-known-slot : tie.Need-enum-known-slot
+enum-known-slot c = search needs
+
+-- what the room r tells, with whether the card is of another operator, is the code
+told-by-room : (c : tie.After-certificate-room) {r : CertificateRoom} → c .certificate-room .result ≡ r → let a = c .before .before .before .before .before .before .before .before .before .before .before .before .before .args in certificate-code (c .before .of-other-card .result) r ≡ code-of (decode (a .s .now)) (with-kind 5 (a .e))
 unfolding certificate-known
-returns-5 c = refused (omega arith) (past-4 (c .before .before .before) (here (sym (c .before .certificate-room .ensures .0) ∙ c .if5 .taken)))
+told-by-room c {r} q =
+    ap (λ o. certificate-code o r) (c .before .of-other-card .ensures)
+    ∙ past-4 (c .before .before) (rest (certificate-told _ _ _ _ _ (sym q ∙ c .certificate-room .ensures)))
+
+returns-5 : tie.Need-returns-5
+returns-5 c = refused (omega arith) (ap (λ o. cond o 11 14) (sym (c .if5 .taken)) ∙ told-by-room (c .before .before .before) (c .before .enum-told3 .given .1))
 
 returns-6 : tie.Need-returns-6
-returns-6 c = refused (omega arith) (past-5 (c .before) (here (sym (elsewhere (c .before)) ∙ c .if6 .taken)))
-
-of-other-card-requires : tie.Need-of-other-card-requires
-of-other-card-requires c κs = search needs
+returns-6 c = refused (omega arith) (ap (λ o. cond o 11 0) (sym (c .if6 .taken)) ∙ told-by-room (c .before .before .before .before) (c .before .before .slot .given .1))
 
 returns-7 : tie.Need-returns-7
-returns-7 c = refused (omega arith) (past-6 (c .before .before) (here (sym (c .before .of-other-card .ensures) ∙ c .if7 .taken)))
+returns-7 c = refused (omega arith) (told-by-room (c .before .before) (c .enum-told .given .1))
 
 returns-8 : tie.Need-returns-8
-returns-8 c =
-    refused (omega arith) (past-7 (c .before)
-    (here (ap not (place-none _ _ (free (c .before .before .before)) (c .before .before .before .before .before .before .certificate-slots .ensures .0) (c .if8 .taken)))))
+returns-8 c = refused (omega arith) (told-by-room (c .before .before) (c .enum-told2 .given .1))
 
 returns-9 : tie.Need-returns-9
-returns-9 c =
-    done (free (c .before .before .before)) (omega arith)
-    (past-7 (c .before)
-    (next (ap not (place-some _ _ (free (c .before .before .before)) (c .before .before .before .before .before .before .certificate-slots .ensures .0) (c .if8 .left))) none))
+returns-9 c = refused (omega arith) (ap (λ o. cond o 11 14) (sym (c .if5 .left)) ∙ told-by-room (c .before .before .before) (c .before .enum-told3 .given .1))
+
+returns-10 : tie.Need-returns-10
+returns-10 c =
+    let free = certificate-filled _ _ _ _ (c .before .before .before .before .certificate-room .ensures) (c .before .before .slot .given .1) in
+    done (free .0) (free .1) (ap (λ o. cond o 11 0) (sym (c .if6 .left)) ∙ told-by-room (c .before .before .before .before) (c .before .before .slot .given .1))
 
 pub install-certificate-spec : {M : Type 1} → statement M
 install-certificate-spec =
@@ -135,11 +130,15 @@ install-certificate-spec =
     returns-3
     is-present-requires
     returns-4
-    certificate-slots-requires
-    certificate-room-requires
-    returns-5
-    returns-6
     of-other-card-requires
+    certificate-room-requires
+    enum-told
+    enum-told-2
+    enum-told-3
+    returns-5
+    enum-known-slot
+    returns-6
     returns-7
     returns-8
-    returns-9)
+    returns-9
+    returns-10)

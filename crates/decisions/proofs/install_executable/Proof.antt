@@ -1,16 +1,15 @@
 use Prim.Native.Nat.{ℕ}
-use mathlib.Core.Bool.{not}
 use mathlib.Core.Path.{_≡_, sym, ap, _∙_}
 use native.Mathlib.Omega.{arith}
 use lib.ListN.{drop}
 use Rattle.records.specs.Phone.{decode}
 use Rattle.rules.specs.Forms.{with-kind}
-use Rattle.rules.specs.Codes.{is-executable, executable-known, code-of}
-use Rattle.lookup.specs.Places.{first-place}
-use Rattle.lookup.proofs.Places.{place-none, place-some}
-use Rattle.decisions.proofs.Rows.{Gives, none, here, next, says}
+use Rattle.rules.specs.Codes.{executable-known, code-of}
+use Rattle.lookup.specs.declared.Room.{Room}
+use Rattle.decisions.proofs.Rows.{Gives, here, next, rest, says}
 use Rattle.decisions.proofs.Codes.{install-executable-rows, install-executable-told}
 use Rattle.decisions.proofs.Plans.{refused, done}
+use Rattle.decisions.proofs.Rooms.{executable-code, executable-told, executable-filled}
 use borrow.Author.Needs.{needs}
 use Rattle.decisions.proofs.install_executable.Statement.{statement}
 use Rattle.decisions.proofs.install_executable.Tie as tie
@@ -31,14 +30,6 @@ past-1 c g = told (c .before .before .before) (next (says (c .before .executable
 past-2 : (c : tie.Else2) {r : ℕ} → Past 2 (c .before .before .before .before .before) r
 past-2 c g = past-1 (c .before .before) (next (says (c .before .may-act .ensures) (c .if2 .left)) g)
 
-past-3 : (c : tie.Else3) {r : ℕ} → Past 3 (c .before .before .before .before .before .before .before .before) r
-unfolding executable-known
-past-3 c g = past-2 (c .before .before .before) (next (sym (c .before .executable-room .ensures .0) ∙ c .if3 .left) g)
-
--- the slot is the lowest free one
-free : (c : tie.Else3) → c .before .executable-room .result .slot ≡ first-place (is-executable 0) (decode (c .before .before .before .before .before .before .before .before .args .s .now) .executables)
-free c = c .before .executable-room .ensures .1 (c .if3 .left)
-
 executable-form-requires : tie.Need-executable-form-requires
 executable-form-requires c κs = search needs
 
@@ -51,26 +42,33 @@ may-act-requires c κs = search needs
 returns-2 : tie.Need-returns-2
 returns-2 c = refused (omega arith) (past-1 (c .before .before) (here (says (c .before .may-act .ensures) (c .if2 .taken))))
 
-executable-slots-requires : tie.Need-executable-slots-requires
-executable-slots-requires c κs = search needs
-
 executable-room-requires : tie.Need-executable-room-requires
 executable-room-requires c κs = search needs
 
-returns-3 : tie.Need-returns-3
+enum-told : tie.Need-enum-told
+enum-told c = search needs
+
+enum-told-2 : tie.Need-enum-told-2
+enum-told-2 c = search needs
+
+enum-known-slot : tie.Need-enum-known-slot
+enum-known-slot c = search needs
+
+-- what the room r tells is the code
+told-by-room : (c : tie.After-executable-room) {r : Room} → c .executable-room .result ≡ r → let a = c .before .before .before .before .before .before .args in executable-code r ≡ code-of (decode (a .s .now)) (with-kind 10 (a .e))
 unfolding executable-known
-returns-3 c = refused (omega arith) (past-2 (c .before .before .before) (here (sym (c .before .executable-room .ensures .0) ∙ c .if3 .taken)))
+told-by-room c q = past-2 (c .before) (rest (executable-told _ _ (sym q ∙ c .executable-room .ensures)))
+
+returns-3 : tie.Need-returns-3
+returns-3 c = refused (omega arith) (told-by-room (c .before .before) (c .enum-told .given .1))
 
 returns-4 : tie.Need-returns-4
-returns-4 c =
-    refused (omega arith) (past-3 (c .before)
-    (here (ap not (place-none _ _ (free (c .before)) (c .before .before .before .executable-slots .ensures .0) (c .if4 .taken)))))
+returns-4 c = refused (omega arith) (told-by-room (c .before .before) (c .enum-told2 .given .1))
 
 returns-5 : tie.Need-returns-5
 returns-5 c =
-    done (free (c .before)) (omega arith)
-    (past-3 (c .before)
-    (next (ap not (place-some _ _ (free (c .before)) (c .before .before .before .executable-slots .ensures .0) (c .if4 .left))) none))
+    let free = executable-filled _ _ (c .before .before .before .executable-room .ensures) (c .before .slot .given .1) in
+    done (free .0) (free .1) (told-by-room (c .before .before .before) (c .before .slot .given .1))
 
 pub install-executable-spec : {M : Type 1} → statement M
 install-executable-spec =
@@ -80,8 +78,10 @@ install-executable-spec =
     returns
     may-act-requires
     returns-2
-    executable-slots-requires
     executable-room-requires
+    enum-told
+    enum-told-2
+    enum-known-slot
     returns-3
     returns-4
     returns-5)

@@ -6,7 +6,7 @@ use lib.ListN.{drop}
 use Rattle.records.specs.Phone.{decode}
 use Rattle.decisions.proofs.Rows.{Gives, none, here, next, gives}
 use Rattle.decisions.proofs.Codes.{acts}
-use Rattle.decisions.proofs.Plans.{named-refused, named-done}
+use Rattle.decisions.proofs.Plans.{refused, done}
 use Rattle.decisions.proofs.Named.{executable-missing, executable-found}
 use mathlib.Core.List.{List}
 use Rattle.rules.specs.Words.{Check, first}
@@ -32,18 +32,18 @@ executable-slots-requires c κs = search needs
 returns : tie.Need-returns
 returns c =
     let a = c .before .before .before .before .args in
-    named-refused (omega arith) (gives
+    refused (omega arith) (gives
     (here (ap not (executable-missing (decode (a .s .now)) _ (c .before .before .executable-slot .ensures) (c .before .executable-slots .ensures .0) (c .if1 .taken)))))
 
 may-act-requires : tie.Need-may-act-requires
 may-act-requires c κs = search needs
 
 returns-2 : tie.Need-returns-2
-returns-2 c = named-refused (omega arith) (known (c .before .before) (here (acts (c .before .may-act .ensures) (c .if2 .taken))))
+returns-2 c = refused (omega arith) (known (c .before .before) (here (acts (c .before .may-act .ensures) (c .if2 .taken))))
 
 returns-3 : tie.Need-returns-3
 returns-3 c =
-    named-done (c .before .before .before .before .executable-slot .ensures) (omega arith) (known (c .before .before) (next (acts (c .before .may-act .ensures) (c .if2 .left)) none))
+    done (c .before .before .before .before .executable-slot .ensures) (omega arith) (known (c .before .before) (next (acts (c .before .may-act .ensures) (c .if2 .left)) none))
 
 pub on-executable-spec : {M : Type 1} → statement M
 on-executable-spec =

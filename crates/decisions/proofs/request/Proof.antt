@@ -1,13 +1,14 @@
 use mathlib.Core.Bool.{false, not}
-use mathlib.Core.Path.{_≡_, refl, ap, _∙_}
+use mathlib.Core.Path.{_≡_, refl, sym, ap, _∙_}
 use native.Mathlib.Omega.{arith}
 use Rattle.records.specs.Phone.{decode}
 use Rattle.decisions.proofs.Rows.{here, next, rest, says}
 use Rattle.decisions.proofs.Codes.{request-told}
-use Rattle.decisions.proofs.Plans.{refused, planned, stands, decides}
+use Rattle.decisions.proofs.Plans.{refused, done, planned-code, planned-slot, retold, stands, decides}
 use Rattle.decisions.proofs.Named.{executable-here}
 use Rattle.decisions.proofs.Forms.{action-below}
-use Rattle.rules.specs.Forms.{action-form}
+use Rattle.rules.specs.Forms.{action-form, with-kind}
+use Rattle.rules.specs.Codes.{code-of}
 use borrow.Author.Needs.{needs}
 use Rattle.decisions.proofs.request.Statement.{statement}
 use Rattle.decisions.proofs.request.Tie as tie
@@ -29,8 +30,8 @@ on-executable-requires c κs = search needs
 
 returns-2 : tie.Need-returns-2
 returns-2 c =
-    planned (c .before .before .on-executable .ensures)
-    (request-told _ _ (omega arith) _ refl (next (fits (c .before .before .before)) (rest (stands _ _ _ (c .before .before .on-executable .ensures .code) (c .if2 .taken)))))
+    let plan = c .before .before .on-executable .ensures in
+    retold plan (request-told _ _ (omega arith) _ refl (next (fits (c .before .before .before)) (rest (stands _ _ _ (planned-code plan) (c .if2 .taken)))))
 
 executable-requires : tie.Need-executable-requires
 executable-requires c κs = (c .before .before .before .before .before .before .before .pre .0 .framed, c .before .before .on-executable .ensures .within (c .if2 .left))
@@ -45,17 +46,23 @@ table-says-requires c κs =
       ),
     )
 
-returns-3 : tie.Need-returns-3
-returns-3 c =
+-- where the executable may be acted on, what the table says is the code
+told : (c : tie.After-table-says) → let a = c .before .before .before .before .before .before .before .before .before .args in c .table-says .result ≡ code-of (decode (a .s .now)) (with-kind 15 (a .e))
+told c =
     let a = c .before .before .before .before .before .before .before .before .before .args in
     let plan = c .before .before .before .before .on-executable .ensures in
-    let q = executable-here (decode (a .s .now)) _ (plan .named (c .before .before .if2 .left)) (c .before .executable .ensures) in
-    let g = rest (c .table-says .ensures ∙ decides _ _ _ (plan .code) (c .before .before .if2 .left)) in
-    record {
-      code = request-told _ _ (omega arith) _ q (next (fits (c .before .before .before .before .before)) g);
-      named = λ _. plan .named (c .before .before .if2 .left);
-      within = λ _. plan .within (c .before .before .if2 .left);
-    }
+    let acts = c .before .before .if2 .left in
+    let x = executable-here (decode (a .s .now)) _ (planned-slot plan acts) (c .before .executable .ensures) in
+    request-told _ _ (omega arith) _ x (next (fits (c .before .before .before .before .before)) (rest (c .table-says .ensures ∙ decides _ _ _ (planned-code plan) acts)))
+
+returns-3 : tie.Need-returns-3
+returns-3 c = refused (omega arith) (told (c .before))
+
+returns-4 : tie.Need-returns-4
+returns-4 c =
+    let plan = c .before .before .before .before .before .on-executable .ensures in
+    let acts = c .before .before .before .if2 .left in
+    done (planned-slot plan acts) (plan .within acts) (sym (c .if3 .left) ∙ told (c .before))
 
 pub request-spec : {M : Type 1} → statement M
 request-spec =
@@ -68,4 +75,5 @@ request-spec =
     returns-2
     executable-requires
     table-says-requires
-    returns-3)
+    returns-3
+    returns-4)

@@ -1,7 +1,7 @@
 use native.Mathlib.Omega.{arith}
 use Rattle.decisions.proofs.Rows.{here, next, rest, says}
 use Rattle.decisions.proofs.Codes.{verify-told}
-use Rattle.decisions.proofs.Plans.{refused, planned}
+use Rattle.decisions.proofs.Plans.{refused, planned-code, retold}
 use borrow.Author.Needs.{needs}
 use Rattle.decisions.proofs.verify.Statement.{statement}
 use Rattle.decisions.proofs.verify.Tie as tie
@@ -17,8 +17,8 @@ on-executable-requires c κs = search needs
 
 returns-2 : tie.Need-returns-2
 returns-2 c =
-    planned (c .on-executable .ensures)
-    (verify-told _ _ (omega arith) (next (says (c .before .before .id-form .ensures _) (c .before .if1 .left)) (rest (c .on-executable .ensures .code))))
+    retold (c .on-executable .ensures)
+    (verify-told _ _ (omega arith) (next (says (c .before .before .id-form .ensures _) (c .before .if1 .left)) (rest (planned-code (c .on-executable .ensures)))))
 
 pub verify-spec : {M : Type 1} → statement M
 verify-spec = tie.close (tie.spec id-form-requires returns on-executable-requires returns-2)

@@ -4,7 +4,7 @@ use native.Mathlib.Omega.{arith}
 use Rattle.records.specs.Phone.{decode}
 use Rattle.decisions.proofs.Rows.{here, next, rest, says}
 use Rattle.decisions.proofs.Codes.{withdraw-told}
-use Rattle.decisions.proofs.Plans.{refused, planned}
+use Rattle.decisions.proofs.Plans.{refused, planned-code, retold}
 use Rattle.decisions.proofs.Forms.{action-below}
 use Rattle.rules.specs.Forms.{action-form}
 use borrow.Author.Needs.{needs}
@@ -33,7 +33,7 @@ on-executable-requires c κs = search needs
 returns-2 : tie.Need-returns-2
 returns-2 c =
     let a = c .before .before .before .before .before .args in (
-      planned (c .on-executable .ensures) (withdraw-told _ _ (omega arith) (next (fits (c .before)) (rest (c .on-executable .ensures .code)))),
+      retold (c .on-executable .ensures) (withdraw-told _ _ (omega arith) (next (fits (c .before)) (rest (planned-code (c .on-executable .ensures))))),
       λ _. action-below (decode (a .s .now)) (a .e) (fits (c .before)),
     )
 

@@ -4,6 +4,7 @@ use Rattle.rules.specs.Forms.{with-kind}
 use Rattle.events.proofs.Handles.{handled-refused, handled-settled, settleable}
 use Rattle.rules.specs.Effects.{effect, mark-invalid}
 use Rattle.rules.specs.Step.{done}
+use Rattle.decisions.proofs.Plans.{planned-code, planned-slot}
 use borrow.Author.Needs.{needs}
 use Rattle.events.proofs.mark_invalid.Statement.{statement}
 use Rattle.events.proofs.mark_invalid.Tie as tie
@@ -18,10 +19,10 @@ same-length : tie.Need-same-length
 same-length c = search needs
 
 returns : tie.Need-returns
-returns c = handled-refused _ (with-kind 8 (c .before .before .before .before .before .before .args .e)) _ (c .before .before .before .mark-invalid .ensures .code) (c .before .if1 .taken) _ (c .refused .ensures)
+returns c = handled-refused _ (with-kind 8 (c .before .before .before .before .before .before .args .e)) _ (planned-code (c .before .before .before .mark-invalid .ensures)) (c .before .if1 .taken) _ (c .refused .ensures)
 
 mark-invalid-requires-2 : tie.Need-mark-invalid-requires-2
-mark-invalid-requires-2 c κs = (c .before .before .before .before .before .before .pre .0, (c .before .before .before .mark-invalid .ensures .named (c .before .if1 .left), (c .before .before .before .mark-invalid .ensures .within (c .before .if1 .left), named-id _ (c .before .before .before .before .before .before .args .e) 8 _ (c .before .before .before .mark-invalid .ensures .code) (c .before .if1 .left) (λ h. h))))
+mark-invalid-requires-2 c κs = (c .before .before .before .before .before .before .pre .0, (planned-slot (c .before .before .before .mark-invalid .ensures) (c .before .if1 .left), (c .before .before .before .mark-invalid .ensures .within (c .before .if1 .left), named-id _ (c .before .before .before .before .before .before .args .e) 8 _ (planned-code (c .before .before .before .mark-invalid .ensures)) (c .before .if1 .left) (λ h. h))))
 
 settle-requires : tie.Need-settle-requires
 unfolding effect mark-invalid
@@ -35,7 +36,7 @@ same-length-2 c = search needs
 
 returns-2 : tie.Need-returns-2
 unfolding effect mark-invalid done
-returns-2 c = handled-settled _ (with-kind 8 (c .before .before .before .before .before .before .before .before .before .before .before .before .before .before .args .e)) _ (c .before .before .before .before .before .before .before .before .before .before .before .mark-invalid .ensures .code) (c .before .before .before .before .before .before .before .before .before .if1 .left) _ (c .refused2 .ensures) _ _ (c .before .before .before .before .before .before .before .mark-invalid2 .ensures) (c .before .before .before .settle .ensures)
+returns-2 c = handled-settled _ (with-kind 8 (c .before .before .before .before .before .before .before .before .before .before .before .before .before .before .args .e)) _ (planned-code (c .before .before .before .before .before .before .before .before .before .before .before .mark-invalid .ensures)) (c .before .before .before .before .before .before .before .before .before .if1 .left) _ (c .refused2 .ensures) _ _ (c .before .before .before .before .before .before .before .mark-invalid2 .ensures) (c .before .before .before .settle .ensures)
 
 pub mark-invalid-spec : {M : Type 1} → statement M
 mark-invalid-spec =

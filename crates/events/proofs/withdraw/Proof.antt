@@ -3,6 +3,7 @@ use Rattle.events.proofs.Handles.{handled-refused, handled-still, accep
 use Rattle.events.proofs.Still.{withdraw-still}
 use Rattle.rules.specs.Effects.{effect, withdraw}
 use Rattle.rules.specs.Step.{done}
+use Rattle.decisions.proofs.Plans.{planned-code, planned-slot}
 use borrow.Author.Needs.{needs}
 use Rattle.events.proofs.withdraw.Statement.{statement}
 use Rattle.events.proofs.withdraw.Tie as tie
@@ -17,10 +18,10 @@ same-length : tie.Need-same-length
 same-length c = search needs
 
 returns : tie.Need-returns
-returns c = handled-refused _ (with-kind 14 (c .before .before .before .before .before .before .args .e)) _ (c .before .before .before .withdraw .ensures .0 .code) (c .before .if1 .taken) _ (c .refused .ensures)
+returns c = handled-refused _ (with-kind 14 (c .before .before .before .before .before .before .args .e)) _ (planned-code (c .before .before .before .withdraw .ensures .0)) (c .before .if1 .taken) _ (c .refused .ensures)
 
 withdraw-requires-2 : tie.Need-withdraw-requires-2
-withdraw-requires-2 c κs = (c .before .before .before .before .before .before .pre .0, (c .before .before .before .withdraw .ensures .0 .named (c .before .if1 .left), (c .before .before .before .withdraw .ensures .0 .within (c .before .if1 .left), (acted-id _ (c .before .before .before .before .before .before .args .e) 14 _ (c .before .before .before .withdraw .ensures .0 .code) (c .before .if1 .left) (λ h. h), c .before .before .before .withdraw .ensures .1 (c .before .if1 .left)))))
+withdraw-requires-2 c κs = (c .before .before .before .before .before .before .pre .0, (planned-slot (c .before .before .before .withdraw .ensures .0) (c .before .if1 .left), (c .before .before .before .withdraw .ensures .0 .within (c .before .if1 .left), (acted-id _ (c .before .before .before .before .before .before .args .e) 14 _ (planned-code (c .before .before .before .withdraw .ensures .0)) (c .before .if1 .left) (λ h. h), c .before .before .before .withdraw .ensures .1 (c .before .if1 .left)))))
 
 refused-requires-2 : tie.Need-refused-requires-2
 refused-requires-2 c κs = search needs
@@ -30,7 +31,7 @@ same-length-2 c = search needs
 
 returns-2 : tie.Need-returns-2
 unfolding effect withdraw done
-returns-2 c = handled-still _ (with-kind 14 (c .before .before .before .before .before .before .before .before .before .before .args .e)) _ (c .before .before .before .before .before .before .before .withdraw .ensures .0 .code) (c .before .before .before .before .before .if1 .left) (withdraw-still _ (accepted-phone _ (c .before .before .before .before .before .before .before .before .before .before .pre .0)) (c .before .before .before .before .before .before .before .before .before .before .args .e)) _ (c .refused2 .ensures) _ (c .before .before .before .withdraw2 .ensures)
+returns-2 c = handled-still _ (with-kind 14 (c .before .before .before .before .before .before .before .before .before .before .args .e)) _ (planned-code (c .before .before .before .before .before .before .before .withdraw .ensures .0)) (c .before .before .before .before .before .if1 .left) (withdraw-still _ (accepted-phone _ (c .before .before .before .before .before .before .before .before .before .before .pre .0)) (c .before .before .before .before .before .before .before .before .before .before .args .e)) _ (c .refused2 .ensures) _ (c .before .before .before .withdraw2 .ensures)
 
 pub withdraw-spec : {M : Type 1} → statement M
 withdraw-spec =

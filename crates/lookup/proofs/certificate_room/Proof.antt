@@ -1,23 +1,19 @@
 use borrow.Author.Needs.{needs}
-use borrow.Author.Tests.{not-true, not-false}
+use borrow.Author.Tests.{eq-eqb, ne-eqb}
 use native.Mathlib.Omega.{arith}
-use Prim.Native.Nat.{ℕ, _+_, _≤_, _-_}
-use mathlib.Core.Bool.{Bool, false, not, _&&_, true≢false}
+use Prim.Native.Nat.{_+_, _≤_, _-_}
+use mathlib.Core.Bool.{false}
 use mathlib.Core.Path.{_≡_, sym, ap, _∙_}
-use lib.Dec.{eqb}
 use lib.ListN.{length, drop}
 use Rattle.records.specs.Phone.{decode, no-certificate}
-use Rattle.records.specs.declared.Certificate.{Certificate}
 use Rattle.rules.specs.Words.{any}
 use Rattle.rules.specs.Codes.{has-id}
 use Rattle.rules.proofs.Loops.{any-back, any-back-done, any-end}
-use Rattle.lookup.specs.Places.{first-place}
-use Rattle.lookup.proofs.Places.{place-back-here, place-back, place-back-done, place-back-end, place-told, somewhere}
+use Rattle.lookup.specs.Places.{first-place, in-another}
+use Rattle.lookup.proofs.Places.{place-back-here, place-back, place-back-done, place-back-end, place-none, place-some, somewhere}
+use Rattle.lookup.proofs.Rooms.{certificate-taken, certificate-elsewhere, certificate-full, certificate-free}
 use Rattle.lookup.proofs.certificate_room.Statement.{statement}
 use Rattle.lookup.proofs.certificate_room.Tie as tie
-
-abbrev in-another : ℕ → ℕ → Certificate → Bool
-in-another key domain x = eqb (x .key) key && not (eqb (x .domain) domain)
 
 abbrev Inv-loop : tie.InvT-loop
 Inv-loop s id key domain slots slot₀ i₀ slot i =
@@ -34,61 +30,64 @@ certificate-slots-requires : tie.Need-certificate-slots-requires Inv-loop μ-loo
 certificate-slots-requires c κs = search needs
 
 loop-holds : tie.Need-loop-holds Inv-loop μ-loop
-loop-holds c = let n = c .certificate-slots .result in (search needs, search needs, sym (any-end no-certificate _ n _ (omega arith)), sym (any-end no-certificate _ n _ (omega arith)), place-back-end _ no-certificate _ n (omega arith))
+loop-holds c =
+    let n = c .certificate-slots .result in
+    (search needs, search needs, sym (any-end no-certificate _ n _ (omega arith)), sym (any-end no-certificate _ n _ (omega arith)), place-back-end _ no-certificate _ n (omega arith))
 
 sub-i : tie.Need-sub-i Inv-loop μ-loop
 sub-i c = search needs
 
-certificate-has-id-requires : tie.Need-certificate-has-id-requires Inv-loop μ-loop
-certificate-has-id-requires c κs = search needs
+certificate-requires : tie.Need-certificate-requires Inv-loop μ-loop
+certificate-requires c κs = search needs
 
 returns : tie.Need-returns Inv-loop μ-loop
 returns c =
-    let i = c .before .before .before .loop .i - 1 in
-    (sym (somewhere _ no-certificate _ i (omega arith) (sym (c .before .certificate-has-id .ensures) ∙ c .if1 .taken)), λ e. absurd (true≢false e), λ e. absurd (true≢false e))
+    let i = c .before .before .before .before .loop .i - 1 in
+    certificate-taken _ _ _ _ (somewhere _ no-certificate _ i (omega arith) (eq-eqb _ _ (ap (λ x. x .id) (sym (c .before .before .certificate .ensures)) ∙ c .if1 .taken)))
 
-certificate-requires : tie.Need-certificate-requires Inv-loop μ-loop
-certificate-requires c κs = search needs
+in-another-requires : tie.Need-in-another-requires Inv-loop μ-loop
+in-another-requires c κs = search needs
 
 certificate-slot-requires : tie.Need-certificate-slot-requires Inv-loop μ-loop
 certificate-slot-requires c κs = search needs
 
 returns-2 : tie.Need-returns-2 Inv-loop μ-loop
-returns-2 c =
-    let a = c .before .before .before .before .before .before .before .before .before .before .before .args in
-    let v = c .before .before .before .before .before .before .before .before .loop in (
-      place-told _ _ (c .certificate-slot .ensures) (v .inv .1),
-      λ _. sym (somewhere (in-another (a .key) (a .domain)) no-certificate _ (v .i - 1) (omega arith) (ap (in-another (a .key) (a .domain)) (sym (c .before .before .before .before .certificate .ensures)) ∙ c .before .if2 .taken)),
-      λ _ e. absurd (true≢false e),
-    )
+returns-2 c = certificate-taken _ _ _ _ (place-some (has-id _) _ (c .before .certificate-slot .ensures) (c .before .before .before .before .before .before .before .before .loop .inv .1) (c .if3 .taken))
 
-certificate-has-id-requires-2 : tie.Need-certificate-has-id-requires-2 Inv-loop μ-loop
-certificate-has-id-requires-2 c κs = (search needs, omega arith)
+returns-3 : tie.Need-returns-3 Inv-loop μ-loop
+returns-3 c =
+    let a = c .before .before .before .before .before .before .before .before .before .before .before .args in
+    let v = c .before .before .before .before .before .before .before .before .loop in
+    certificate-elsewhere _ _ _ _ (place-none (has-id _) _ (c .before .certificate-slot .ensures) (v .inv .1) (c .if3 .left))
+    (somewhere (in-another (a .key) (a .domain)) no-certificate _ (v .i - 1) (omega arith)
+    (ap (in-another (a .key) (a .domain)) (sym (c .before .before .before .before .before .before .certificate .ensures)) ∙ sym (c .before .before .before .in-another .ensures) ∙ c .before .before .if2 .taken))
 
 -- no slot from this one on has the id
-kept : (c : tie.Else1 Inv-loop μ-loop) → let a = c .before .before .before .before .before .before .args in false ≡ any (has-id (a .id)) (drop (c .before .before .before .loop .i - 1) (decode (a .s .now) .trust .certificates))
+kept : (c : tie.Else1 Inv-loop μ-loop) → let a = c .before .before .before .before .before .before .before .args in false ≡ any (has-id (a .id)) (drop (c .before .before .before .before .loop .i - 1) (decode (a .s .now) .trust .certificates))
 kept c =
-    let v = c .before .before .before .loop in
-    any-back no-certificate _ (v .i - 1) _ false false {j = v .i} (v .inv .2) (omega arith) (omega arith) (sym (c .if1 .left) ∙ c .before .certificate-has-id .ensures)
+    let v = c .before .before .before .before .loop in
+    any-back no-certificate _ (v .i - 1) _ false false {j = v .i} (v .inv .2) (omega arith) (omega arith)
+    (sym (ne-eqb _ _ (λ same. c .if1 .left (ap (λ x. x .id) (c .before .before .certificate .ensures) ∙ same))))
 
 -- and none has the key in another domain
-apart : (c : tie.Else2 Inv-loop μ-loop) → let a = c .before .before .before .before .before .before .before .before .before .before .args in false ≡ any (in-another (a .key) (a .domain)) (drop (c .before .before .before .before .before .before .before .loop .i - 1) (decode (a .s .now) .trust .certificates))
+apart : (c : tie.Else2 Inv-loop μ-loop) → let a = c .before .before .before .before .before .before .before .before .before .args in false ≡ any (in-another (a .key) (a .domain)) (drop (c .before .before .before .before .before .before .loop .i - 1) (decode (a .s .now) .trust .certificates))
 apart c =
-    let a = c .before .before .before .before .before .before .before .before .before .before .args in
-    let v = c .before .before .before .before .before .before .before .loop in
-    any-back no-certificate _ (v .i - 1) (in-another (a .key) (a .domain)) false false {j = v .i} (v .inv .3) (omega arith) (omega arith) (sym (c .if2 .left) ∙ ap (in-another (a .key) (a .domain)) (c .before .before .before .certificate .ensures))
+    let a = c .before .before .before .before .before .before .before .before .before .args in
+    let v = c .before .before .before .before .before .before .loop in
+    any-back no-certificate _ (v .i - 1) (in-another (a .key) (a .domain)) false false {j = v .i} (v .inv .3) (omega arith) (omega arith)
+    (sym (c .if2 .left) ∙ c .before .in-another .ensures ∙ ap (in-another (a .key) (a .domain)) (c .before .before .before .before .certificate .ensures))
 
 loop-less : tie.Need-loop-less Inv-loop μ-loop
 loop-less c = search needs
 
 loop-again : tie.Need-loop-again Inv-loop μ-loop
 loop-again c =
-    let v = c .before .before .before .before .before .before .before .before .before .loop in (
+    let v = c .before .before .before .before .before .before .before .before .loop in (
       omega arith,
       search needs,
-      kept (c .before .before .before .before .before .before),
+      kept (c .before .before .before .before),
       apart (c .before .before),
-      place-back _ no-certificate _ (v .i - 1) (v .inv .4) (omega arith) (omega arith) (sym (c .before .certificate-has-id2 .ensures) ∙ not-true _ (c .if3 .taken)),
+      place-back _ no-certificate _ (v .i - 1) (v .inv .4) (omega arith) (omega arith) (ne-eqb _ _ (λ zero. c .if4 .taken (ap (λ x. x .id) (c .before .before .before .before .before .before .certificate .ensures) ∙ zero))),
     )
 
 loop-less-2 : tie.Need-loop-less-2 Inv-loop μ-loop
@@ -96,18 +95,33 @@ loop-less-2 c = search needs
 
 loop-again-2 : tie.Need-loop-again-2 Inv-loop μ-loop
 loop-again-2 c =
-    let v = c .before .before .before .before .before .before .before .before .before .loop in (
+    let v = c .before .before .before .before .before .before .before .before .loop in (
       omega arith,
       search needs,
-      kept (c .before .before .before .before .before .before),
+      kept (c .before .before .before .before),
       apart (c .before .before),
-      place-back-here _ no-certificate _ (v .i - 1) (omega arith) (sym (c .before .certificate-has-id2 .ensures) ∙ not-false _ (c .if3 .left)),
+      place-back-here _ no-certificate _ (v .i - 1) (omega arith) (eq-eqb _ _ (ap (λ x. x .id) (sym (c .before .before .before .before .before .before .certificate .ensures)) ∙ c .if4 .left)),
     )
 
-returns-3 : tie.Need-returns-3 Inv-loop μ-loop
-returns-3 c =
-    let v = c .before .loop in
-    (any-back-done no-certificate _ (v .i) _ (v .inv .2) (omega arith), λ _. any-back-done no-certificate _ (v .i) _ (v .inv .3) (omega arith), λ _ _. place-back-done _ no-certificate _ (v .i) (v .inv .4) (omega arith))
+returns-4 : tie.Need-returns-4 Inv-loop μ-loop
+returns-4 c =
+    let v = c .before .before .loop in
+    certificate-full _ _ _ _
+    (sym (any-back-done no-certificate _ (v .i) _ (v .inv .2) (omega arith)))
+    (sym (any-back-done no-certificate _ (v .i) _ (v .inv .3) (omega arith)))
+    (place-back-done _ no-certificate _ (v .i) (v .inv .4) (omega arith))
+    (v .inv .1)
+    (c .if5 .taken)
+
+returns-5 : tie.Need-returns-5 Inv-loop μ-loop
+returns-5 c =
+    let v = c .before .before .loop in
+    certificate-free _ _ _ _
+    (sym (any-back-done no-certificate _ (v .i) _ (v .inv .2) (omega arith)))
+    (sym (any-back-done no-certificate _ (v .i) _ (v .inv .3) (omega arith)))
+    (place-back-done _ no-certificate _ (v .i) (v .inv .4) (omega arith))
+    (v .inv .1)
+    (c .if5 .left)
 
 pub certificate-room-spec : {M : Type 1} → statement M
 certificate-room-spec =
@@ -118,14 +132,15 @@ certificate-room-spec =
     certificate-slots-requires
     loop-holds
     sub-i
-    certificate-has-id-requires
-    returns
     certificate-requires
+    returns
+    in-another-requires
     certificate-slot-requires
     returns-2
-    certificate-has-id-requires-2
+    returns-3
     loop-less
     loop-again
     loop-less-2
     loop-again-2
-    returns-3)
+    returns-4
+    returns-5)

@@ -2,7 +2,7 @@ use borrow.Author.Needs.{needs}
 use borrow.Author.Tests.{not-true, not-false}
 use native.Mathlib.Omega.{arith}
 use Prim.Native.Nat.{_+_, _≤_, _-_}
-use mathlib.Core.Bool.{false, true≢false}
+use mathlib.Core.Bool.{false}
 use mathlib.Core.Path.{_≡_, sym, _∙_}
 use lib.ListN.{length, drop}
 use Rattle.records.specs.Phone.{decode, no-executable}
@@ -11,6 +11,7 @@ use Rattle.rules.specs.Codes.{is-executable}
 use Rattle.rules.proofs.Loops.{any-back, any-back-done, any-end}
 use Rattle.lookup.specs.Places.{first-place}
 use Rattle.lookup.proofs.Places.{place-back-here, place-back, place-back-done, place-back-end, somewhere}
+use Rattle.lookup.proofs.Rooms.{executable-taken, executable-full, executable-free}
 use Rattle.lookup.proofs.executable_room.Statement.{statement}
 use Rattle.lookup.proofs.executable_room.Tie as tie
 
@@ -39,7 +40,7 @@ executable-has-id-requires c κs = search needs
 returns : tie.Need-returns Inv-loop μ-loop
 returns c =
     let i = c .before .before .before .loop .i - 1 in
-    (sym (somewhere _ no-executable _ i (omega arith) (sym (c .before .executable-has-id .ensures) ∙ c .if1 .taken)), λ e. absurd (true≢false e))
+    executable-taken _ _ (somewhere _ no-executable _ i (omega arith) (sym (c .before .executable-has-id .ensures) ∙ c .if1 .taken))
 
 executable-has-id-requires-2 : tie.Need-executable-has-id-requires-2 Inv-loop μ-loop
 executable-has-id-requires-2 c κs = search needs
@@ -76,8 +77,13 @@ loop-again-2 c =
 
 returns-2 : tie.Need-returns-2 Inv-loop μ-loop
 returns-2 c =
-    let v = c .before .loop in
-    (any-back-done no-executable _ (v .i) _ (v .inv .2) (omega arith), λ _. place-back-done _ no-executable _ (v .i) (v .inv .3) (omega arith))
+    let v = c .before .before .loop in
+    executable-full _ _ (sym (any-back-done no-executable _ (v .i) _ (v .inv .2) (omega arith))) (place-back-done _ no-executable _ (v .i) (v .inv .3) (omega arith)) (v .inv .1) (c .if3 .taken)
+
+returns-3 : tie.Need-returns-3 Inv-loop μ-loop
+returns-3 c =
+    let v = c .before .before .loop in
+    executable-free _ _ (sym (any-back-done no-executable _ (v .i) _ (v .inv .2) (omega arith))) (place-back-done _ no-executable _ (v .i) (v .inv .3) (omega arith)) (v .inv .1) (c .if3 .left)
 
 pub executable-room-spec : {M : Type 1} → statement M
 executable-room-spec =
@@ -95,4 +101,5 @@ executable-room-spec =
     loop-again
     loop-less-2
     loop-again-2
-    returns-2)
+    returns-2
+    returns-3)

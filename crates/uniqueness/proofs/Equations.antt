@@ -1,0 +1,431 @@
+-- Any two outcomes that a contract admits are equal: here for the contracts that are one equation, for the result (`returned`) or for the
+-- buffer that is written (`written`). A line for each public function, by crates in the order of the house. Assumes nothing.
+use Prim.Native.Nat.{ℕ}
+use mathlib.Core.List.{List, [], _∷_}
+use mathlib.Core.Path.{_≡_, refl, sym, ap, _∙_}
+use Rattle.uniqueness.specs.Outcomes.{One-result, One-outcome}
+
+pub returned : {A : Type 0} {x y z : A} → x ≡ z → y ≡ z → x ≡ y
+returned p q = p ∙ sym q
+
+pub written : {r r′ : Unit {0}} {x y z : List ℕ} → x ≡ z → y ≡ z → (r ≡ r′) × (x ∷ [] ≡ y ∷ [])
+written p q = (refl, ap (λ l. l ∷ []) (returned p q))
+
+-- ==== octets
+
+pub one-octets-read8 : One-result Rattle.octets.proofs.read8.Reads.Learnt
+one-octets-read8 κs a r r′ e e′ = returned
+
+pub one-octets-read16 : One-result Rattle.octets.proofs.read16.Reads.Learnt
+one-octets-read16 κs a r r′ e e′ = returned
+
+pub one-octets-read32 : One-result Rattle.octets.proofs.read32.Reads.Learnt
+one-octets-read32 κs a r r′ e e′ = returned
+
+pub one-octets-is16 : One-result Rattle.octets.proofs.is16.Reads.Learnt
+one-octets-is16 κs a r r′ e e′ = returned
+
+pub one-octets-write8 : One-outcome Rattle.octets.proofs.write8.Reads.Learnt (λ e. e .0 .now ∷ [])
+one-octets-write8 κs a r r′ e e′ = written
+
+pub one-octets-write16 : One-outcome Rattle.octets.proofs.write16.Reads.Learnt (λ e. e .0 .now ∷ [])
+one-octets-write16 κs a r r′ e e′ = written
+
+pub one-octets-write32 : One-outcome Rattle.octets.proofs.write32.Reads.Learnt (λ e. e .0 .now ∷ [])
+one-octets-write32 κs a r r′ e e′ = written
+
+pub one-octets-clear : One-outcome Rattle.octets.proofs.clear.Reads.Learnt (λ e. e .0 .now ∷ [])
+one-octets-clear κs a r r′ e e′ = written
+
+-- ==== bits
+
+pub one-bits-has-bit : One-result Rattle.bits.proofs.has_bit.Reads.Learnt
+one-bits-has-bit κs a r r′ e e′ = returned
+
+pub one-bits-set-bit : One-result Rattle.bits.proofs.set_bit.Reads.Learnt
+one-bits-set-bit κs a r r′ e e′ = returned
+
+pub one-bits-clear-bit : One-result Rattle.bits.proofs.clear_bit.Reads.Learnt
+one-bits-clear-bit κs a r r′ e e′ = returned
+
+-- ==== records
+
+pub one-header-version : One-result Rattle.records.proofs.Header.version.Reads.Learnt
+one-header-version κs a r r′ e e′ = returned
+
+pub one-header-certificate-slots : One-result Rattle.records.proofs.Header.certificate_slots.Reads.Learnt
+one-header-certificate-slots κs a r r′ e e′ = returned
+
+pub one-header-card-count : One-result Rattle.records.proofs.Header.card_count.Reads.Learnt
+one-header-card-count κs a r r′ e e′ = returned
+
+pub one-header-executable-slots : One-result Rattle.records.proofs.Header.executable_slots.Reads.Learnt
+one-header-executable-slots κs a r r′ e e′ = returned
+
+pub one-header-action-count : One-result Rattle.records.proofs.Header.action_count.Reads.Learnt
+one-header-action-count κs a r r′ e e′ = returned
+
+pub one-header-mode : One-result Rattle.records.proofs.Header.mode.Reads.Learnt
+one-header-mode κs a r r′ e e′ = returned
+
+pub one-header-card : One-result Rattle.records.proofs.Header.card.Reads.Learnt
+one-header-card κs a r r′ e e′ = returned
+
+pub one-header-blank : One-result Rattle.records.proofs.Header.blank.Reads.Learnt
+one-header-blank κs a r r′ e e′ = returned
+
+pub one-header-clock : One-result Rattle.records.proofs.Header.clock.Reads.Learnt
+one-header-clock κs a r r′ e e′ = returned
+
+pub one-header-certificates-at : One-result Rattle.records.proofs.Header.certificates_at.Reads.Learnt
+one-header-certificates-at κs a r r′ e e′ = returned
+
+pub one-header-cards-at : One-result Rattle.records.proofs.Header.cards_at.Reads.Learnt
+one-header-cards-at κs a r r′ e e′ = returned
+
+pub one-header-executables-at : One-result Rattle.records.proofs.Header.executables_at.Reads.Learnt
+one-header-executables-at κs a r r′ e e′ = returned
+
+pub one-header-table-at : One-result Rattle.records.proofs.Header.table_at.Reads.Learnt
+one-header-table-at κs a r r′ e e′ = returned
+
+pub one-header-total : One-result Rattle.records.proofs.Header.total.Reads.Learnt
+one-header-total κs a r r′ e e′ = returned
+
+pub one-certificate-read : One-result Rattle.records.proofs.Certificate.read.Reads.Learnt
+one-certificate-read κs a r r′ e e′ = returned
+
+pub one-certificate-id : One-result Rattle.records.proofs.Certificate.id.Reads.Learnt
+one-certificate-id κs a r r′ e e′ = returned
+
+pub one-certificate-place : One-result Rattle.records.proofs.Certificate.place.Reads.Learnt
+one-certificate-place κs a r r′ e e′ = returned
+
+pub one-certificate-kind : One-result Rattle.records.proofs.Certificate.kind.Reads.Learnt
+one-certificate-kind κs a r r′ e e′ = returned
+
+pub one-certificate-domain : One-result Rattle.records.proofs.Certificate.domain.Reads.Learnt
+one-certificate-domain κs a r r′ e e′ = returned
+
+pub one-certificate-mark : One-result Rattle.records.proofs.Certificate.mark.Reads.Learnt
+one-certificate-mark κs a r r′ e e′ = returned
+
+pub one-certificate-enabled : One-result Rattle.records.proofs.Certificate.enabled.Reads.Learnt
+one-certificate-enabled κs a r r′ e e′ = returned
+
+pub one-certificate-key : One-result Rattle.records.proofs.Certificate.key.Reads.Learnt
+one-certificate-key κs a r r′ e e′ = returned
+
+pub one-certificate-verifying : One-result Rattle.records.proofs.Certificate.verifying.Reads.Learnt
+one-certificate-verifying κs a r r′ e e′ = returned
+
+pub one-certificate-owner : One-result Rattle.records.proofs.Certificate.owner.Reads.Learnt
+one-certificate-owner κs a r r′ e e′ = returned
+
+pub one-certificate-expiry : One-result Rattle.records.proofs.Certificate.expiry.Reads.Learnt
+one-certificate-expiry κs a r r′ e e′ = returned
+
+pub one-certificate-write : One-outcome Rattle.records.proofs.Certificate.write.Reads.Learnt (λ e. e .0 .now ∷ [])
+one-certificate-write κs a r r′ e e′ = written
+
+pub one-card-read : One-result Rattle.records.proofs.Card.read.Reads.Learnt
+one-card-read κs a r r′ e e′ = returned
+
+pub one-card-number : One-result Rattle.records.proofs.Card.number.Reads.Learnt
+one-card-number κs a r r′ e e′ = returned
+
+pub one-card-blank : One-result Rattle.records.proofs.Card.blank.Reads.Learnt
+one-card-blank κs a r r′ e e′ = returned
+
+pub one-card-operator : One-result Rattle.records.proofs.Card.operator.Reads.Learnt
+one-card-operator κs a r r′ e e′ = returned
+
+pub one-executable-read : One-result Rattle.records.proofs.Executable.read.Reads.Learnt
+one-executable-read κs a r r′ e e′ = returned
+
+pub one-executable-id : One-result Rattle.records.proofs.Executable.id.Reads.Learnt
+one-executable-id κs a r r′ e e′ = returned
+
+pub one-executable-domain : One-result Rattle.records.proofs.Executable.domain.Reads.Learnt
+one-executable-domain κs a r r′ e e′ = returned
+
+pub one-executable-blank : One-result Rattle.records.proofs.Executable.blank.Reads.Learnt
+one-executable-blank κs a r r′ e e′ = returned
+
+pub one-executable-signing : One-result Rattle.records.proofs.Executable.signing.Reads.Learnt
+one-executable-signing κs a r r′ e e′ = returned
+
+pub one-executable-permissions : One-result Rattle.records.proofs.Executable.permissions.Reads.Learnt
+one-executable-permissions κs a r r′ e e′ = returned
+
+pub one-executable-write : One-outcome Rattle.records.proofs.Executable.write.Reads.Learnt (λ e. e .0 .now ∷ [])
+one-executable-write κs a r r′ e e′ = written
+
+pub one-row-read : One-result Rattle.records.proofs.Row.read.Reads.Learnt
+one-row-read κs a r r′ e e′ = returned
+
+pub one-row-untrusted : One-result Rattle.records.proofs.Row.untrusted.Reads.Learnt
+one-row-untrusted κs a r r′ e e′ = returned
+
+pub one-row-operator : One-result Rattle.records.proofs.Row.operator.Reads.Learnt
+one-row-operator κs a r r′ e e′ = returned
+
+pub one-row-manufacturer : One-result Rattle.records.proofs.Row.manufacturer.Reads.Learnt
+one-row-manufacturer κs a r r′ e e′ = returned
+
+pub one-row-third : One-result Rattle.records.proofs.Row.third.Reads.Learnt
+one-row-third κs a r r′ e e′ = returned
+
+pub one-event-read : One-result Rattle.records.proofs.Event.read.Reads.Learnt
+one-event-read κs a r r′ e e′ = returned
+
+pub one-event-kind : One-result Rattle.records.proofs.Event.kind.Reads.Learnt
+one-event-kind κs a r r′ e e′ = returned
+
+pub one-event-actor : One-result Rattle.records.proofs.Event.actor.Reads.Learnt
+one-event-actor κs a r r′ e e′ = returned
+
+pub one-event-id : One-result Rattle.records.proofs.Event.id.Reads.Learnt
+one-event-id κs a r r′ e e′ = returned
+
+pub one-event-second : One-result Rattle.records.proofs.Event.second.Reads.Learnt
+one-event-second κs a r r′ e e′ = returned
+
+pub one-event-third : One-result Rattle.records.proofs.Event.third.Reads.Learnt
+one-event-third κs a r r′ e e′ = returned
+
+pub one-event-fourth : One-result Rattle.records.proofs.Event.fourth.Reads.Learnt
+one-event-fourth κs a r r′ e e′ = returned
+
+pub one-event-key : One-result Rattle.records.proofs.Event.key.Reads.Learnt
+one-event-key κs a r r′ e e′ = returned
+
+pub one-event-verifying : One-result Rattle.records.proofs.Event.verifying.Reads.Learnt
+one-event-verifying κs a r r′ e e′ = returned
+
+pub one-event-owner : One-result Rattle.records.proofs.Event.owner.Reads.Learnt
+one-event-owner κs a r r′ e e′ = returned
+
+pub one-event-expiry : One-result Rattle.records.proofs.Event.expiry.Reads.Learnt
+one-event-expiry κs a r r′ e e′ = returned
+
+pub one-image-is-framed : One-result Rattle.records.proofs.image.is_framed.Reads.Learnt
+one-image-is-framed κs a r r′ e e′ = returned
+
+pub one-image-mode : One-result Rattle.records.proofs.image.mode.Reads.Learnt
+one-image-mode κs a r r′ e e′ = returned
+
+pub one-image-card-present : One-result Rattle.records.proofs.image.card_present.Reads.Learnt
+one-image-card-present κs a r r′ e e′ = returned
+
+pub one-image-clock : One-result Rattle.records.proofs.image.clock.Reads.Learnt
+one-image-clock κs a r r′ e e′ = returned
+
+pub one-image-certificate : One-result Rattle.records.proofs.image.certificate.Reads.Learnt
+one-image-certificate κs a r r′ e e′ = returned
+
+pub one-image-certificate-has-id : One-result Rattle.records.proofs.image.certificate_has_id.Reads.Learnt
+one-image-certificate-has-id κs a r r′ e e′ = returned
+
+pub one-image-card : One-result Rattle.records.proofs.image.card.Reads.Learnt
+one-image-card κs a r r′ e e′ = returned
+
+pub one-image-executable : One-result Rattle.records.proofs.image.executable.Reads.Learnt
+one-image-executable κs a r r′ e e′ = returned
+
+pub one-image-executable-has-id : One-result Rattle.records.proofs.image.executable_has_id.Reads.Learnt
+one-image-executable-has-id κs a r r′ e e′ = returned
+
+pub one-image-row : One-result Rattle.records.proofs.image.row.Reads.Learnt
+one-image-row κs a r r′ e e′ = returned
+
+pub one-image-table-byte : One-result Rattle.records.proofs.image.table_byte.Reads.Learnt
+one-image-table-byte κs a r r′ e e′ = returned
+
+pub one-image-set-clock : One-outcome Rattle.records.proofs.image.set_clock.Reads.Learnt (λ e. e .0 .now ∷ [])
+one-image-set-clock κs a r r′ e e′ = written
+
+pub one-image-set-card : One-outcome Rattle.records.proofs.image.set_card.Reads.Learnt (λ e. e .0 .now ∷ [])
+one-image-set-card κs a r r′ e e′ = written
+
+pub one-image-set-mode : One-outcome Rattle.records.proofs.image.set_mode.Reads.Learnt (λ e. e .0 .now ∷ [])
+one-image-set-mode κs a r r′ e e′ = written
+
+pub one-image-set-mark : One-outcome Rattle.records.proofs.image.set_mark.Reads.Learnt (λ e. e .0 .now ∷ [])
+one-image-set-mark κs a r r′ e e′ = written
+
+pub one-image-set-enabled : One-outcome Rattle.records.proofs.image.set_enabled.Reads.Learnt (λ e. e .0 .now ∷ [])
+one-image-set-enabled κs a r r′ e e′ = written
+
+pub one-image-write-certificate : One-outcome Rattle.records.proofs.image.write_certificate.Reads.Learnt (λ e. e .0 .now ∷ [])
+one-image-write-certificate κs a r r′ e e′ = written
+
+pub one-image-clear-certificate : One-outcome Rattle.records.proofs.image.clear_certificate.Reads.Learnt (λ e. e .0 .now ∷ [])
+one-image-clear-certificate κs a r r′ e e′ = written
+
+pub one-image-set-domain : One-outcome Rattle.records.proofs.image.set_domain.Reads.Learnt (λ e. e .0 .now ∷ [])
+one-image-set-domain κs a r r′ e e′ = written
+
+pub one-image-set-permissions : One-outcome Rattle.records.proofs.image.set_permissions.Reads.Learnt (λ e. e .0 .now ∷ [])
+one-image-set-permissions κs a r r′ e e′ = written
+
+pub one-image-write-executable : One-outcome Rattle.records.proofs.image.write_executable.Reads.Learnt (λ e. e .0 .now ∷ [])
+one-image-write-executable κs a r r′ e e′ = written
+
+pub one-image-clear-executable : One-outcome Rattle.records.proofs.image.clear_executable.Reads.Learnt (λ e. e .0 .now ∷ [])
+one-image-clear-executable κs a r r′ e e′ = written
+
+-- ==== forms
+
+pub one-forms-certificate-fits : One-result Rattle.forms.proofs.certificate_fits.Reads.Learnt
+one-forms-certificate-fits κs a r r′ e e′ = returned
+
+pub one-forms-i2 : One-result Rattle.forms.proofs.i2.Reads.Learnt
+one-forms-i2 κs a r r′ e e′ = returned
+
+pub one-forms-cards-fit : One-result Rattle.forms.proofs.cards_fit.Reads.Learnt
+one-forms-cards-fit κs a r r′ e e′ = returned
+
+pub one-forms-numbers-distinct : One-result Rattle.forms.proofs.numbers_distinct.Reads.Learnt
+one-forms-numbers-distinct κs a r r′ e e′ = returned
+
+pub one-forms-ids-distinct : One-result Rattle.forms.proofs.ids_distinct.Reads.Learnt
+one-forms-ids-distinct κs a r r′ e e′ = returned
+
+pub one-forms-keys-apart : One-result Rattle.forms.proofs.keys_apart.Reads.Learnt
+one-forms-keys-apart κs a r r′ e e′ = returned
+
+pub one-forms-i6 : One-result Rattle.forms.proofs.i6.Reads.Learnt
+one-forms-i6 κs a r r′ e e′ = returned
+
+pub one-forms-i7 : One-result Rattle.forms.proofs.i7.Reads.Learnt
+one-forms-i7 κs a r r′ e e′ = returned
+
+-- ==== chain
+
+pub one-chain-is-present : One-result Rattle.chain.proofs.is_present.Reads.Learnt
+one-chain-is-present κs a r r′ e e′ = returned
+
+pub one-chain-in-date : One-result Rattle.chain.proofs.in_date.Reads.Learnt
+one-chain-in-date κs a r r′ e e′ = returned
+
+pub one-chain-valid-root : One-result Rattle.chain.proofs.valid_root.Reads.Learnt
+one-chain-valid-root κs a r r′ e e′ = returned
+
+pub one-chain-is-good : One-result Rattle.chain.proofs.is_good.Reads.Learnt
+one-chain-is-good κs a r r′ e e′ = returned
+
+pub one-chain-links-of : One-result Rattle.chain.proofs.links_of.Reads.Learnt
+one-chain-links-of κs a r r′ e e′ = returned
+
+pub one-chain-chain-of : One-result Rattle.chain.proofs.chain_of.Reads.Learnt
+one-chain-chain-of κs a r r′ e e′ = returned
+
+-- ==== lookup
+
+pub one-lookup-certificate-slot : One-result Rattle.lookup.proofs.certificate_slot.Reads.Learnt
+one-lookup-certificate-slot κs a r r′ e e′ = returned
+
+pub one-lookup-executable-slot : One-result Rattle.lookup.proofs.executable_slot.Reads.Learnt
+one-lookup-executable-slot κs a r r′ e e′ = returned
+
+pub one-lookup-executable-room : One-result Rattle.lookup.proofs.executable_room.Reads.Learnt
+one-lookup-executable-room κs a r r′ e e′ = returned
+
+pub one-lookup-certificate-room : One-result Rattle.lookup.proofs.certificate_room.Reads.Learnt
+one-lookup-certificate-room κs a r r′ e e′ = returned
+
+pub one-lookup-in-card-table : One-result Rattle.lookup.proofs.in_card_table.Reads.Learnt
+one-lookup-in-card-table κs a r r′ e e′ = returned
+
+pub one-lookup-known-place : One-result Rattle.lookup.proofs.known_place.Reads.Learnt
+one-lookup-known-place κs a r r′ e e′ = returned
+
+pub one-lookup-operator-of : One-result Rattle.lookup.proofs.operator_of.Reads.Learnt
+one-lookup-operator-of κs a r r′ e e′ = returned
+
+pub one-lookup-valid-in : One-result Rattle.lookup.proofs.valid_in.Reads.Learnt
+one-lookup-valid-in κs a r r′ e e′ = returned
+
+pub one-lookup-has-valid-operator : One-result Rattle.lookup.proofs.has_valid_operator.Reads.Learnt
+one-lookup-has-valid-operator κs a r r′ e e′ = returned
+
+-- ==== decisions
+
+pub one-decisions-may-act : One-result Rattle.decisions.proofs.may_act.Reads.Learnt
+one-decisions-may-act κs a r r′ e e′ = returned
+
+pub one-decisions-listed-id : One-result Rattle.decisions.proofs.listed_id.Reads.Learnt
+one-decisions-listed-id κs a r r′ e e′ = returned
+
+pub one-decisions-clock : One-result Rattle.decisions.proofs.clock.Reads.Learnt
+one-decisions-clock κs a r r′ e e′ = returned
+
+pub one-decisions-card-in : One-result Rattle.decisions.proofs.card_in.Reads.Learnt
+one-decisions-card-in κs a r r′ e e′ = returned
+
+pub one-decisions-card-out : One-result Rattle.decisions.proofs.card_out.Reads.Learnt
+one-decisions-card-out κs a r r′ e e′ = returned
+
+pub one-decisions-power-up : One-result Rattle.decisions.proofs.power_up.Reads.Learnt
+one-decisions-power-up κs a r r′ e e′ = returned
+
+pub one-decisions-new-certificate : One-result Rattle.decisions.proofs.new_certificate.Reads.Learnt
+one-decisions-new-certificate κs a r r′ e e′ = returned
+
+-- ==== effects
+
+pub one-effects-tick : One-outcome Rattle.effects.proofs.tick.Reads.Learnt (λ e. e .0 .now ∷ [])
+one-effects-tick κs a r r′ e e′ = written
+
+pub one-effects-card-only : One-outcome Rattle.effects.proofs.card_only.Reads.Learnt (λ e. e .0 .now ∷ [])
+one-effects-card-only κs a r r′ e e′ = written
+
+pub one-effects-card-in : One-outcome Rattle.effects.proofs.card_in.Reads.Learnt (λ e. e .0 .now ∷ [])
+one-effects-card-in κs a r r′ e e′ = written
+
+pub one-effects-card-out : One-outcome Rattle.effects.proofs.card_out.Reads.Learnt (λ e. e .0 .now ∷ [])
+one-effects-card-out κs a r r′ e e′ = written
+
+pub one-effects-power-up : One-outcome Rattle.effects.proofs.power_up.Reads.Learnt (λ e. e .0 .now ∷ [])
+one-effects-power-up κs a r r′ e e′ = written
+
+pub one-effects-install-certificate : One-outcome Rattle.effects.proofs.install_certificate.Reads.Learnt (λ e. e .0 .now ∷ [])
+one-effects-install-certificate κs a r r′ e e′ = written
+
+pub one-effects-delete-certificate : One-outcome Rattle.effects.proofs.delete_certificate.Reads.Learnt (λ e. e .0 .now ∷ [])
+one-effects-delete-certificate κs a r r′ e e′ = written
+
+pub one-effects-on-a-card : One-result Rattle.effects.proofs.on_a_card.Reads.Learnt
+one-effects-on-a-card κs a r r′ e e′ = returned
+
+pub one-effects-mark-valid : One-outcome Rattle.effects.proofs.mark_valid.Reads.Learnt (λ e. e .0 .now ∷ [])
+one-effects-mark-valid κs a r r′ e e′ = written
+
+pub one-effects-mark-invalid : One-outcome Rattle.effects.proofs.mark_invalid.Reads.Learnt (λ e. e .0 .now ∷ [])
+one-effects-mark-invalid κs a r r′ e e′ = written
+
+pub one-effects-install-executable : One-outcome Rattle.effects.proofs.install_executable.Reads.Learnt (λ e. e .0 .now ∷ [])
+one-effects-install-executable κs a r r′ e e′ = written
+
+pub one-effects-delete-executable : One-outcome Rattle.effects.proofs.delete_executable.Reads.Learnt (λ e. e .0 .now ∷ [])
+one-effects-delete-executable κs a r r′ e e′ = written
+
+pub one-effects-give : One-outcome Rattle.effects.proofs.give.Reads.Learnt (λ e. e .0 .now ∷ [])
+one-effects-give κs a r r′ e e′ = written
+
+pub one-effects-withdraw : One-outcome Rattle.effects.proofs.withdraw.Reads.Learnt (λ e. e .0 .now ∷ [])
+one-effects-withdraw κs a r r′ e e′ = written
+
+pub one-effects-settle : One-outcome Rattle.effects.proofs.settle.Reads.Learnt (λ e. e .0 .now ∷ [])
+one-effects-settle κs a r r′ e e′ = written
+
+-- ==== monitor
+
+pub one-monitor-open : One-result Rattle.monitor.proofs.monitor_open.Reads.Learnt
+one-monitor-open κs a r r′ e e′ = returned
+
+-- ==== stream
+
+pub one-stream-put-text : One-outcome Rattle.stream.proofs.put_text.Reads.Learnt (λ e. e .0 .now ∷ [])
+one-stream-put-text κs a r r′ e e′ = written
