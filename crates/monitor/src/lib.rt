@@ -35,7 +35,8 @@ pub extern "C" fn monitor_open(image: &[u8]) -> u8
 pub extern "C" fn monitor_step(image: &mut [u8], event: &[u8]) -> u32
     ensures { λ r. ⌜ Stepped (now (image .entry)) (now (event .entry)) r (now (image .exit)) ⌝ }
 {
-    pack(events::step(image, event))
+    let told = events::step(image, event);
+    pack(told)
 }
 
 // ---- a run of events
