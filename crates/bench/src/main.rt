@@ -3,70 +3,75 @@
 use libc::STDIN_FILENO;
 use libc::STDOUT_FILENO;
 use records::Event;
+ghost use mathlib.Core.Bool.{cond};
 ghost use mathlib.Core.Path.{_≡_};
+ghost use lib.Dec.{leb};
 ghost use lib.ListN.{length};
 ghost use Prim.Native.Nat.{_+_, _≤_};
+ghost use Rattle.octets.specs.Octets.{put};
 ghost use Rattle.records.specs.Sizes.{event-size};
 ghost use Rattle.opening.specs.Opened.{Accepted-image};
+ghost use Rattle.stream.specs.Decimal.{most-digits};
+ghost use Rattle.bench.specs.Lines.{column, line, longest-line, heading, image-refused};
 
-// Events have a number of 32 bits.
-const MOST_EVENTS: u64 = 4294967295;
+// Events are numbered as far as 64 bits count: a million of them a second take half a million years to get there.
+const MOST_EVENTS: u64 = 18446744073709551615;
 
 // ---- text, collected in a buffer and written in large pieces
 
-// Where n more bytes go: behind what is collected or, where there is no room, at the start once that is written.
-fn room(out: &[u8], used: usize, n: usize) -> usize
-    requires { ⌜ (used ≤ length (now out)) × (n ≤ length (now out)) ⌝ }
-    ensures { λ r. ⌜ r + n ≤ length (now (out .entry)) ⌝ }
+// No line is longer: five numbers of at most 20 digits, and a byte behind each.
+const LONGEST_LINE: usize = 105;
+
+// Where the next line goes: behind what is collected or, where there is no room for it, at the start once that is written.
+fn room(out: &[u8], used: usize) -> usize
+    requires { ⌜ (used ≤ length (now out)) × (longest-line ≤ length (now out)) ⌝ }
+    ensures { λ r. ⌜ r ≡ cond (leb (used + longest-line) (length (now (out .entry)))) used 0 ⌝ }
 {
-    if n <= out.len() - used {
+    if LONGEST_LINE <= out.len() - used {
         return used;
     }
     io::write_all(STDOUT_FILENO, &out[..used]);
     0
 }
 
-fn add(out: &mut [u8], used: usize, text: &[u8]) -> usize
-    requires { ⌜ used ≤ length (now out) ⌝ }
-    ensures { λ r. ⌜ r ≤ length (now (out .exit)) ⌝ }
+// A space and a number put at a place: the place behind them.
+fn put_column(out: &mut [u8], at: usize, n: u8) -> usize
+    requires { ⌜ at + 1 + most-digits ≤ length (now out) ⌝ }
+    ensures { λ r. ⌜ (now (out .exit) ≡ put (now (out .entry)) at (column n)) × (r ≡ at + length (column n)) ⌝ }
 {
-    if out.len() < text.len() {
-        io::write_all(STDOUT_FILENO, &out[..used]);
-        io::write_all(STDOUT_FILENO, text);
-        return 0;
-    }
-    let at = room(out, used, text.len());
-    stream::put_text(out, at, text);
-    at + text.len()
+    stream::put_text(out, at, b" ");
+    stream::put_number(out, at + 1, n as u64)
 }
 
-fn add_number(out: &mut [u8], used: usize, n: u64) -> usize
-    requires { ⌜ used ≤ length (now out) ⌝ }
-    ensures { λ r. ⌜ r ≤ length (now (out .exit)) ⌝ }
+// The line of an event's answer put at a place: the place behind it.
+fn put_line(out: &mut [u8], at: usize, n: u64, kind: u8, a: rules::Answer) -> usize
+    requires { ⌜ at + longest-line ≤ length (now out) ⌝ }
+    ensures { λ r. ⌜ (now (out .exit) ≡ put (now (out .entry)) at (line n kind a)) × (r ≡ at + length (line n kind a)) ⌝ }
 {
-    let mut digits = [0u8; 20];
-    let k = io::decimal(n, &mut digits);
-    add(out, used, &digits[..k])
+    let numbered = stream::put_number(out, at, n);
+    let kinded = put_column(out, numbered, kind);
+    let coded = put_column(out, kinded, a.code);
+    let placed = put_column(out, coded, a.domain);
+    let linked = put_column(out, placed, a.links);
+    stream::put_text(out, linked, b"\n");
+    linked + 1
 }
 
-fn add_column(out: &mut [u8], used: usize, n: u64) -> usize
-    requires { ⌜ used ≤ length (now out) ⌝ }
-    ensures { λ r. ⌜ r ≤ length (now (out .exit)) ⌝ }
+// The two fixed lines, put at the start of a buffer: how long they are.
+fn put_heading(out: &mut [u8]) -> usize
+    requires { ⌜ length heading ≤ length (now out) ⌝ }
+    ensures { λ r. ⌜ (now (out .exit) ≡ put (now (out .entry)) 0 heading) × (r ≡ length heading) ⌝ }
 {
-    let at = add(out, used, b" ");
-    add_number(out, at, n)
+    stream::put_text(out, 0, b"event kind code domain links\n");
+    29
 }
 
-fn add_line(out: &mut [u8], used: usize, n: u64, kind: u8, a: rules::Answer) -> usize
-    requires { ⌜ used ≤ length (now out) ⌝ }
-    ensures { λ r. ⌜ r ≤ length (now (out .exit)) ⌝ }
+fn put_refusal(out: &mut [u8]) -> usize
+    requires { ⌜ length image-refused ≤ length (now out) ⌝ }
+    ensures { λ r. ⌜ (now (out .exit) ≡ put (now (out .entry)) 0 image-refused) × (r ≡ length image-refused) ⌝ }
 {
-    let numbered = add_number(out, used, n);
-    let kinded = add_column(out, numbered, kind as u64);
-    let coded = add_column(out, kinded, a.code as u64);
-    let placed = add_column(out, coded, a.domain as u64);
-    let linked = add_column(out, placed, a.links as u64);
-    add(out, linked, b"\n")
+    stream::put_text(out, 0, b"image 1\n");
+    8
 }
 
 // ---- a run
@@ -74,7 +79,7 @@ fn add_line(out: &mut [u8], used: usize, n: u64, kind: u8, a: rules::Answer) -> 
 // A record at a time until the stream ends; what is left of it where that is less than a record is the last one.
 fn all_events(s: &mut [u8], v: &mut [u8], out: &mut [u8])
     requires { ⌜ Accepted-image (now s) ⌝ }
-    requires { ⌜ length (now v) ≡ event-size ⌝ }
+    requires { ⌜ (length (now v) ≡ event-size) × (longest-line ≤ length (now out)) ⌝ }
 {
     let mut used = 0;
     let mut n: u64 = 0;
@@ -82,7 +87,8 @@ fn all_events(s: &mut [u8], v: &mut [u8], out: &mut [u8])
     while n < MOST_EVENTS && 0 < got {
         n += 1;
         let a = events::step_on(s, &v[..got]);
-        used = add_line(out, used, n, v[0], a);
+        let at = room(out, used);
+        used = put_line(out, at, n, v[0], a);
         got = io::read_full(STDIN_FILENO, v);
     }
     io::write_all(STDOUT_FILENO, &out[..used]);
@@ -90,17 +96,20 @@ fn all_events(s: &mut [u8], v: &mut [u8], out: &mut [u8])
 
 // What came as an image, and the events behind it. Zeros of the buffer never stand for bytes that were not read.
 fn lesson(s: &mut [u8]) {
+    let mut out = io::large_buffer();
     if opening::open(s) != 0 {
-        io::write_all(STDOUT_FILENO, b"image 1\n");
+        let refusal = put_refusal(&mut out);
+        io::write_all(STDOUT_FILENO, &out[..refusal]);
         return;
     }
     let mut record = [0u8; Event::SIZE];
-    let mut out = io::large_buffer();
     all_events(s, &mut record, &mut out);
 }
 
 fn main() {
-    io::write_all(STDOUT_FILENO, b"event kind code domain links\n");
+    let mut first = [0u8; 29];
+    let told = put_heading(&mut first);
+    io::write_all(STDOUT_FILENO, &first[..told]);
     let mut buffer = [0u8; 2536];
     let got = stream::read_image(STDIN_FILENO, &mut buffer);
     lesson(&mut buffer[..got]);

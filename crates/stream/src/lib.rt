@@ -3,8 +3,9 @@ use records::Header;
 ghost use Prim.Native.Nat.{_+_, _≤_};
 ghost use mathlib.Core.Path.{_≡_};
 ghost use lib.ListN.{length};
-ghost use lib.Seq.{paste};
+ghost use Rattle.octets.specs.Octets.{put};
 ghost use Rattle.records.specs.Sizes.{largest-image};
+ghost use Rattle.stream.specs.Decimal.{most-digits, decimal};
 
 // The largest image: 64 certificates, 8 cards, 64 executables and 32 actions.
 pub const LARGEST: usize = 2536;
@@ -33,11 +34,22 @@ pub fn read_image(fd: i32, s: &mut [u8]) -> usize
 // Text put at a place of a buffer that has room for it there.
 pub fn put_text(out: &mut [u8], at: usize, text: &[u8])
     requires { ⌜ at + length (now text) ≤ length (now out) ⌝ }
-    ensures { λ _. ⌜ now (out .exit) ≡ paste (now (out .entry)) at (now (text .entry)) (length (now (text .entry))) ⌝ }
+    ensures { λ _. ⌜ now (out .exit) ≡ put (now (out .entry)) at (now (text .entry)) ⌝ }
 {
     let mut i = 0;
     while i < text.len() {
         out[at + i] = text[i];
         i += 1;
     }
+}
+
+// A number in decimal digits put at a place of a buffer that has room for the longest there: the place behind it.
+pub fn put_number(out: &mut [u8], at: usize, n: u64) -> usize
+    requires { ⌜ at + most-digits ≤ length (now out) ⌝ }
+    ensures { λ r. ⌜ (now (out .exit) ≡ put (now (out .entry)) at (decimal n)) × (r ≡ at + length (decimal n)) ⌝ }
+{
+    let mut digits = [0u8; 20];
+    let k = io::decimal(n, &mut digits);
+    put_text(out, at, &digits[..k]);
+    at + k
 }

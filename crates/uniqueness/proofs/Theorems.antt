@@ -111,3 +111,8 @@ one-monitor-run κs a r r′ e e′ x y =
     let count = returned (x .count) (y .count) in
     let f = one-followed (x .followed) (subst (λ n. Followed (a .0 .now) (a .1 .0 .now) (a .1 .1 .0 .now) n (e′ .0 .now) (e′ .1 .1 .0 .now)) (sym count) (y .followed)) in
     (count, ap (λ l. l ∷ e .1 .1 .0 .now ∷ []) (f .0) ∙ ap (λ out. e′ .0 .now ∷ out ∷ []) (f .1))
+
+-- ==== stream: the buffer, and the place behind what was put
+
+pub one-stream-put-number : One-outcome Rattle.stream.proofs.put_number.Reads.Learnt (λ e. e .0 .now ∷ [])
+one-stream-put-number κs a r r′ e e′ x y = (returned (x .1) (y .1), buffer (x .0) (y .0))

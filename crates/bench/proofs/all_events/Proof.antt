@@ -1,18 +1,20 @@
+use borrow.Author.Needs.{needs}
+use Rattle.bench.proofs.Texts.{line-small, room-there}
 use native.Mathlib.Omega.{arith}
 use mathlib.Core.Path.{sym, _≡_}
 use lib.Seq.{length-take-le}
-use borrow.Author.Needs.{needs}
-use lib.ListN.{length}
-use Prim.Native.Nat.{_-_, _≤_}
+use lib.ListN.{length, getD}
+use Prim.Native.Nat.{_+_, _-_, _≤_}
 use Rattle.opening.specs.Opened.{Accepted-image}
 use Rattle.bench.proofs.all_events.Statement.{statement}
 use Rattle.bench.proofs.all_events.Tie as tie
 
 abbrev Inv-loop : tie.InvT-loop
-Inv-loop s₀ v₀ out₀ used₀ n₀ got₀ s v out used n got = (length s ≡ length s₀) × (length v ≡ length v₀) × (length out ≡ length out₀) × Accepted-image s × (used ≤ length out) × (got ≤ length v)
+Inv-loop s₀ v₀ out₀ used₀ n₀ got₀ s v out used n got =
+    (length s ≡ length s₀) × (length v ≡ length v₀) × (length out ≡ length out₀) × Accepted-image s × (used ≤ length out) × (got ≤ length v)
 
 abbrev μ-loop : tie.MeasureT-loop
-μ-loop s₀ v₀ out₀ used₀ n₀ got₀ s v out used n got = 4294967295 - n
+μ-loop s₀ v₀ out₀ used₀ n₀ got₀ s v out used n got = 18446744073709551615 - n
 
 read-full-requires : tie.Need-read-full-requires Inv-loop μ-loop
 read-full-requires c κs = search needs
@@ -32,11 +34,16 @@ slice-aggregate-step-on c = sym (length-take-le _ _ (search needs))
 step-on-requires : tie.Need-step-on-requires Inv-loop μ-loop
 step-on-requires c κs = search needs
 
-slice-read-add-line : tie.Need-slice-read-add-line Inv-loop μ-loop
-slice-read-add-line c = search needs
+room-requires : tie.Need-room-requires Inv-loop μ-loop
+room-requires c κs = (omega arith, omega arith)
 
-add-line-requires : tie.Need-add-line-requires Inv-loop μ-loop
-add-line-requires c κs = search needs
+slice-read-put-line : tie.Need-slice-read-put-line Inv-loop μ-loop
+slice-read-put-line c = search needs
+
+put-line-requires : tie.Need-put-line-requires Inv-loop μ-loop
+put-line-requires c κs =
+    let v = c .before .before .before .before .before .before .before .before .before .before .before .loop in
+    omega (arith, room-there (v .used) (length (v .out)) (omega arith), c .before .before .room .ensures)
 
 read-full-requires-2 : tie.Need-read-full-requires-2 Inv-loop μ-loop
 read-full-requires-2 c κs = search needs
@@ -45,7 +52,14 @@ loop-less : tie.Need-loop-less Inv-loop μ-loop
 loop-less c = omega arith
 
 loop-again : tie.Need-loop-again Inv-loop μ-loop
-loop-again c = (search needs, search needs, omega arith, search needs, search needs, search needs)
+loop-again c =
+    let v = c .before .before .before .before .before .before .before .before .before .before .before .before .before .before .before .before .before .before .loop in
+    let told = c .before .before .before .before .before .before .put-line .ensures .1 in
+    let wide = c .before .before .before .before .before .before .before .before .before .before .before .before .before .before .before .before .before .before .before .before .before .before .before .before .before .before .pre .1 .1 in
+    let there = room-there (v .used) (length (v .out)) (omega (arith, wide)) in
+    let at = c .before .before .before .before .before .before .before .before .before .room .ensures in
+    let small = line-small (v .n + 1) (getD (v .v) 0 0) (c .before .before .before .before .before .before .before .before .before .before .before .before .before .step-on .result) in
+    (search needs, search needs, omega arith, search needs, omega (arith, told, there, at, small), search needs)
 
 slice-reshare-prefix-write-all : tie.Need-slice-reshare-prefix-write-all Inv-loop μ-loop
 slice-reshare-prefix-write-all c = search needs
@@ -80,8 +94,9 @@ all-events-spec =
     slice-reshare-prefix-step-on
     slice-aggregate-step-on
     step-on-requires
-    slice-read-add-line
-    add-line-requires
+    room-requires
+    slice-read-put-line
+    put-line-requires
     read-full-requires-2
     loop-less
     loop-again

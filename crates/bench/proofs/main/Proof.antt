@@ -1,11 +1,26 @@
+use native.Mathlib.Omega.{arith}
 use mathlib.Core.Path.{sym}
 use lib.Seq.{length-take-le}
+use Rattle.bench.specs.Lines.{heading}
+use Rattle.bench.proofs.Texts.{start-within}
 use borrow.Author.Needs.{needs}
 use Rattle.bench.proofs.main.Statement.{statement}
 use Rattle.bench.proofs.main.Tie as tie
 
+slice-aggregate-put-heading : tie.Need-slice-aggregate-put-heading
+slice-aggregate-put-heading c = search needs
+
+put-heading-requires : tie.Need-put-heading-requires
+unfolding heading
+put-heading-requires c κs = search needs
+
+array-share-prefix-first : tie.Need-array-share-prefix-first
+unfolding heading
+array-share-prefix-first c = start-within _ heading (omega arith) (c .before .put-heading .ensures)
+
 slice-aggregate-write-all : tie.Need-slice-aggregate-write-all
-slice-aggregate-write-all c = search needs
+unfolding heading
+slice-aggregate-write-all c = sym (length-take-le _ _ (start-within _ heading (omega arith) (c .before .before .put-heading .ensures)))
 
 write-all-requires : tie.Need-write-all-requires
 write-all-requires c κs = search needs
@@ -32,6 +47,9 @@ pub main-spec : {M : Type 1} → statement M
 main-spec =
     tie.close
     (tie.spec
+    slice-aggregate-put-heading
+    put-heading-requires
+    array-share-prefix-first
     slice-aggregate-write-all
     write-all-requires
     slice-aggregate-read-image

@@ -1,4 +1,9 @@
+use Prim.Native.Nat.{_+_}
+use lib.ListN.{length}
+use Rattle.bench.specs.Lines.{longest-line}
+use native.Mathlib.Omega.{arith}
 use mathlib.Core.Path.{sym}
+use borrow.Author.Tests.{le-leb, lt-leb}
 use lib.Seq.{length-take-le}
 use borrow.Author.Needs.{needs}
 use Rattle.bench.proofs.room.Statement.{statement}
@@ -8,7 +13,7 @@ sub-if1 : tie.Need-sub-if1
 sub-if1 c = search needs
 
 returns : tie.Need-returns
-returns c = search needs
+returns c = let a = c .before .before .args in rw (le-leb (a .used + longest-line) (length (a .out .now)) (omega arith))
 
 slice-aggregate-write-all : tie.Need-slice-aggregate-write-all
 slice-aggregate-write-all c = sym (length-take-le _ _ (search needs))
@@ -17,7 +22,7 @@ write-all-requires : tie.Need-write-all-requires
 write-all-requires c κs = search needs
 
 returns-2 : tie.Need-returns-2
-returns-2 c = search needs
+returns-2 c = let a = c .before .before .before .before .args in rw (lt-leb (a .used + longest-line) (length (a .out .now)) (omega arith))
 
 pub room-spec : {M : Type 1} → statement M
 room-spec =

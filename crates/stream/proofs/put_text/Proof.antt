@@ -5,6 +5,7 @@ use mathlib.Core.List.{List}
 use lib.ListN.{length, length-set, set, getD}
 use lib.Seq.{paste, paste-zero, paste-suc}
 use Prim.Native.Nat.{ℕ, suc, _+_, _-_, _≤_}
+use Rattle.stream.proofs.Texts.{paste-put}
 use Rattle.stream.proofs.put_text.Statement.{statement}
 use Rattle.stream.proofs.put_text.Tie as tie
 
@@ -47,7 +48,7 @@ returns c =
     let a = c .before .before .args in
     let v = c .before .loop in
     let e : v .i ≡ length (a .text .now) = omega arith in
-    v .inv .2 ∙ ap (λ (n : ℕ). paste (a .out .now) (a .at) (a .text .now) n) e
+    v .inv .2 ∙ ap (λ (n : ℕ). paste (a .out .now) (a .at) (a .text .now) n) e ∙ paste-put (a .out .now) (a .at) (a .text .now)
 
 pub put-text-spec : {M : Type 1} → statement M
 put-text-spec =

@@ -1,0 +1,69 @@
+-- Texts put one behind the other are one text. Assumes nothing.
+use Prim.Native.Nat.{ℕ, _+_, _≤_}
+use mathlib.Core.Bool.{Bool, true, false, cond}
+use mathlib.Core.List.{List, [], _∷_, _++_, append-assoc}
+use mathlib.Core.Path.{_≡_, ap, ap₂, _∙_}
+use native.Mathlib.Omega.{arith}
+use lib.Dec.{T, leb, leb→le}
+use lib.ListN.{length, length-append}
+use Rattle.octets.specs.Octets.{put}
+use Rattle.octets.proofs.Laws.{length-put}
+use Rattle.records.proofs.Puts.{put-next}
+use Rattle.rules.specs.declared.Answer.{Answer}
+use Rattle.stream.specs.Decimal.{most-digits, decimal}
+use Rattle.stream.proofs.Texts.{decimal-small}
+use Rattle.bench.specs.Lines.{column, line, longest-line}
+
+-- a text put at i makes l into s, and ends at j
+abbrev pub Put : List ℕ → ℕ → List ℕ → List ℕ → ℕ → Type 0
+Put l i text s j = (s ≡ put l i text) × (j ≡ i + length text)
+
+then : (l : List ℕ) (i : ℕ) {s t : List ℕ} {j k : ℕ} (xs ys : List ℕ) → i ≤ length l → Put l i xs s j → Put s j ys t k → Put l i (xs ++ ys) t k
+then l i xs ys h a b =
+    let n = length-append xs ys in
+    (b .0 ∙ ap₂ (λ (s : List ℕ) (j : ℕ). put s j ys) (a .0) (a .1) ∙ put-next l i xs ys h, omega (arith, a .1, b .1))
+
+module _ (l : List ℕ) (at : ℕ) (room : at ≤ length l) (n kind : ℕ) (a : Answer) where
+  -- a line, column by column
+  pub line-put : {p q r s t u : List ℕ} {i j k m o e : ℕ} → Put l at (decimal n) p i → Put p i (column kind) q j → Put q j (column (a .code)) r k
+      → Put r k (column (a .domain)) s m → Put s m (column (a .links)) t o → Put t o (10 ∷ []) u e → Put l at (line n kind a) u e
+  unfolding line
+  line-put number kinded coded placed linked ended =
+      let to-kind = then l at (decimal n) (column kind) room number kinded in
+      let to-code = then l at (decimal n ++ column kind) (column (a .code)) room to-kind coded in
+      let to-domain = then l at ((decimal n ++ column kind) ++ column (a .code)) (column (a .domain)) room to-code placed in
+      let to-links = then l at (((decimal n ++ column kind) ++ column (a .code)) ++ column (a .domain)) (column (a .links)) room to-domain linked in
+      let whole = then l at ((((decimal n ++ column kind) ++ column (a .code)) ++ column (a .domain)) ++ column (a .links)) (10 ∷ []) room to-links ended in
+      let same : ((((decimal n ++ column kind) ++ column (a .code)) ++ column (a .domain)) ++ column (a .links)) ++ (10 ∷ [])
+      ≡ decimal n ++ column kind ++ column (a .code) ++ column (a .domain) ++ column (a .links) ++ (10 ∷ []) = simp append-assoc in
+      (whole .0 ∙ ap (put l at) same, whole .1 ∙ ap (λ (text : List ℕ). at + length text) same)
+
+-- where a number, and a column, end at the latest
+pub number-ends : (n at : ℕ) {r : ℕ} → r ≡ at + length (decimal n) → r ≤ at + most-digits
+number-ends n at e = let h = decimal-small n in omega arith
+
+pub column-ends : (n at : ℕ) {r : ℕ} → r ≡ at + length (column n) → r ≤ at + 1 + most-digits
+column-ends n at e = let h = decimal-small n in omega arith
+
+-- a line fits where the longest does
+pub line-small : (n kind : ℕ) (a : Answer) → length (line n kind a) ≤ longest-line
+unfolding line
+line-small n kind a =
+    let number = decimal-small n in
+    let kinded = decimal-small kind in
+    let coded = decimal-small (a .code) in
+    let placed = decimal-small (a .domain) in
+    let linked = decimal-small (a .links) in
+    simp length-append (omega arith)
+
+-- where a line goes there is room for it
+pub room-there : (used size : ℕ) → longest-line ≤ size → cond (leb (used + longest-line) size) used 0 + longest-line ≤ size
+room-there used size h = go (leb (used + longest-line) size) (λ t. leb→le (used + longest-line) size t)
+  where
+    go : (b : Bool) → (T b → used + longest-line ≤ size) → cond b used 0 + longest-line ≤ size
+    go true f = f tt
+    go false f = omega arith
+
+-- a text at the start of a buffer is within it
+pub start-within : (l text : List ℕ) {s : List ℕ} {r : ℕ} → length text ≤ length l → (s ≡ put l 0 text) × (r ≡ length text) → r ≤ length s
+start-within l text h e = let n = ap length (e .0) ∙ length-put l 0 text (omega arith) in omega (arith, e .1)

@@ -1,0 +1,52 @@
+use borrow.Author.Needs.{needs}
+use native.Mathlib.Omega.{arith}
+use mathlib.Core.List.{List}
+use mathlib.Core.Path.{_≡_, ap, _∙_}
+use Prim.Native.Nat.{ℕ, _+_}
+use lib.ListN.{length}
+use Rattle.octets.specs.Octets.{put}
+use Rattle.stream.proofs.Texts.{decimal-is, fewest-small}
+use Rattle.stream.proofs.put_number.Statement.{statement}
+use Rattle.stream.proofs.put_number.Tie as tie
+
+decimal-requires : tie.Need-decimal-requires
+decimal-requires c κs = search needs
+
+array-share-prefix-digits : tie.Need-array-share-prefix-digits
+array-share-prefix-digits c = search needs
+
+slice-aggregate-put-text : tie.Need-slice-aggregate-put-text
+slice-aggregate-put-text c = search needs
+
+put-text-requires : tie.Need-put-text-requires
+put-text-requires c κs =
+    let d = c .before .before .decimal .ensures in
+    omega (arith, d .0 .1, fewest-small _ (c .before .before .before .before .before .args .n) (d .1 .0) (omega arith))
+
+add-result : tie.Need-add-result
+add-result c =
+    let a = c .before .before .before .before .before .before .before .before .args in
+    omega (arith, fewest-small _ (a .n) (c .before .before .before .before .before .decimal .ensures .1 .0) (omega arith))
+
+same-length : tie.Need-same-length
+same-length c = search needs
+
+returns : tie.Need-returns
+returns c =
+    let d = c .before .before .before .before .before .decimal .ensures in
+    let a = c .before .before .before .before .before .before .before .before .args in
+    let text = d .1 .1 ∙ decimal-is _ (a .n) (d .1 .0) (fewest-small _ (a .n) (d .1 .0) (omega arith)) in
+    let count = ap length text in
+    (c .before .before .put-text .ensures ∙ ap (put (a .out .now) (a .at)) text, omega (arith, d .0 .1))
+
+pub put-number-spec : {M : Type 1} → statement M
+put-number-spec =
+    tie.close
+    (tie.spec
+    decimal-requires
+    array-share-prefix-digits
+    slice-aggregate-put-text
+    put-text-requires
+    add-result
+    same-length
+    returns)

@@ -1,0 +1,19 @@
+-- A number as text. Definitions only.
+use Prim.Native.Nat.{ℕ, zero, suc, _/_}
+use mathlib.Core.Bool.{cond}
+use mathlib.Core.List.{List}
+use lib.Dec.{ltb}
+use Rattle.io.specs.Digits.{digits}
+
+-- the most digits that a number of 64 bits has
+abbrev pub most-digits : ℕ
+most-digits = 20
+
+-- the digits of n, one at least and at most one more than the first number
+unfoldable pub places-within : ℕ → ℕ → ℕ
+places-within zero n = 1
+places-within (suc more) n = cond (ltb n 10) 1 (suc (places-within more (n / 10)))
+
+-- the decimal digits of a number of 64 bits, in ASCII and without zeros in front
+unfoldable pub decimal : ℕ → List ℕ
+decimal n = digits 10 (places-within 19 n) n
