@@ -1,1 +1,3 @@
 mod Runs
+mod Answers
+pub mod Theorems

@@ -1,10 +1,10 @@
 -- Laws of a run: what is left of it shrinks by an event at a time. Assumes nothing.
-use Prim.Native.Nat.{ℕ, zero, suc, _+_, _-_, _*_, _/_, _%_, _≤_, _<_, min}
+use Prim.Native.Nat.{ℕ, zero, suc, _+_, _-_, _*_, _/_, _%_, _≤_, _<_}
 use mathlib.Core.Bool.{Bool, true, false, cond}
 use mathlib.Core.List.{List, [], _∷_}
 use mathlib.Core.Logic.{_≢_}
 use mathlib.Core.Path.{_≡_, refl, sym, ap, ap₂, _∙_, subst}
-use native.Mathlib.Nat.{div-mul-le-self, min-le-left, min-le-right, sub-zero}
+use native.Mathlib.Nat.{sub-zero}
 use native.Mathlib.Omega.{arith}
 use borrow.Author.Tests.{eq-eqb, ne-eqb}
 use lib.Dec.{eqb}
@@ -18,6 +18,7 @@ use Rattle.records.proofs.Puts.{put-next}
 use Rattle.rules.specs.declared.Answer.{Answer}
 use Rattle.rules.specs.ImageRules.{«open»}
 use Rattle.rules.specs.Step.{refused, step, run, answers}
+use Rattle.rules.proofs.Tests.{by-test, is, isnt}
 use Rattle.events.specs.Stepped.{Stepped, Stepped-on}
 use Rattle.events.proofs.Steps.{broken-stepped}
 use Rattle.monitor.specs.Told.{answer-size, answer-bytes, events-of, event-count, answered, Followed}
@@ -182,19 +183,15 @@ module _ (out₀ : List ℕ) (n : ℕ) where
 
 -- ---- how many there is room for
 
+-- as many records as hold n bytes, and one fewer would not
+pub counted : (n : ℕ) → (n ≤ event-count n * event-size) × (event-count n * event-size < n + event-size)
+counted n =
+    by-test (eqb (n % event-size) 0)
+    (λ t. let z = is (n % event-size) 0 t in let e = count-whole n z in (omega arith, omega arith))
+    (λ t. let z = isnt (n % event-size) 0 t in let e = count-short n z in (omega arith, omega arith))
+
 pub answered-room : (n m : ℕ) → answered n m * answer-size ≤ m
-answered-room n m =
-    let a = min-le-right (event-count n) (m / answer-size) in
-    let d = div-mul-le-self m answer-size in
-    omega arith
+answered-room n m = omega arith
 
 pub answered-events : (n m : ℕ) → answered n m * event-size ≤ n + event-size
-answered-events n m =
-    let a = min-le-left (event-count n) (m / answer-size) in
-    let c = count-small (eqb (n % event-size) 0) in
-    let d = div-mul-le-self n event-size in
-    omega arith
-  where
-    count-small : (t : Bool) → cond t (n / event-size) (n / event-size + 1) ≤ n / event-size + 1
-    count-small true = omega arith
-    count-small false = omega arith
+answered-events n m = let c = counted n in omega arith

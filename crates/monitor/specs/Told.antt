@@ -4,7 +4,7 @@ use mathlib.Core.Bool.{cond}
 use mathlib.Core.List.{List, [], _∷_}
 use mathlib.Core.Path.{_≡_}
 use lib.Dec.{eqb}
-use lib.ListN.{length, take, drop}
+use lib.ListN.{length, getD, take, drop}
 use Rattle.octets.specs.Octets.{put}
 use Rattle.records.specs.Sizes.{event-size}
 use Rattle.records.specs.Phone.{joined}
@@ -16,6 +16,16 @@ use Rattle.rules.specs.Step.{step, run, answers}
 -- an answer as one number: code, domain and links, a byte each
 abbrev pub packed : Answer → ℕ
 packed a = (a .code * 256 + a .domain) * 256 + a .links
+
+-- what a caller reads from it: MONITOR_CODE, MONITOR_DOMAIN and MONITOR_LINKS of bindings/monitor.h, a shift by 16, by 8 and by none and then the lowest byte
+abbrev pub told-code : ℕ → ℕ
+told-code n = n / 65536 % 256
+
+abbrev pub told-domain : ℕ → ℕ
+told-domain n = n / 256 % 256
+
+abbrev pub told-links : ℕ → ℕ
+told-links n = n % 256
 
 -- the number and the image
 pub record Stepped (l v : List ℕ) (r : ℕ) (l′ : List ℕ) : Type 0 where
@@ -30,6 +40,13 @@ answer-size = 3
 
 abbrev pub answer-bytes : Answer → List ℕ
 answer-bytes a = a .code ∷ a .domain ∷ a .links ∷ []
+
+-- what a caller reads from a buffer of them as its i-th, the first one counted 0
+abbrev pub answer-from : List ℕ → ℕ → Answer
+answer-from out k = record { code = getD out k 0; domain = getD out (k + 1) 0; links = getD out (k + 2) 0 }
+
+abbrev pub answer-at : List ℕ → ℕ → Answer
+answer-at out i = answer-from out (i * answer-size)
 
 -- the first n events of a buffer, one after the other; the last may be short
 abbrev pub events-of : List ℕ → ℕ → List (List ℕ)

@@ -1,6 +1,7 @@
 // Runs the stored cases of its folder through the library and says what differs, by case, event and field. The file
 // `cases` names them, one to a line; NAME.in is a stream, NAME.out what `bench` writes for it and NAME.fin the image
-// afterwards.
+// afterwards. With a word on its command line each case goes three ways, as callers may: one run, runs with room for few
+// answers, and single steps. These open an image again and again, so that a program that is not optimised takes long.
 use libc::STDOUT_FILENO;
 use records::Card;
 use records::Certificate;
@@ -18,6 +19,18 @@ const MOST_CASES: u64 = 1000000;
 const MOST_EVENTS: usize = 65536;
 
 const ANSWER_SIZE: usize = 3;
+
+// The ways: a run with room for every answer, runs with room for seven answers each, and a step for each event.
+const WHOLE: u8 = 0;
+
+const PIECES: u8 = 1;
+
+const STEPS: u8 = 2;
+
+const PIECE_SIZE: usize = 21;
+
+// No code: an answer that is never told shows.
+const UNTOLD: u8 = 255;
 
 const KINDS: usize = 16;
 
@@ -202,20 +215,28 @@ fn count_answer(seen: &mut [u64], kind: u8, code: u8, domain: u8, links: u8) {
 
 // ---- what differs
 
-fn tell(name: &[u8], what: &[u8], n: u64) {
-    say(b"case ");
-    say(name);
-    say(what);
-    say_number(n);
+fn say_way(way: u8) {
+    if way == PIECES {
+        say(b" in pieces");
+    }
+    if way == STEPS {
+        say(b" by steps");
+    }
 }
 
-fn tell_case(name: &[u8], what: &[u8]) -> u64
+fn tell_case(name: &[u8], way: u8, what: &[u8]) -> u64
     ensures { λ r. ⌜ r ≤ 1 ⌝ }
 {
     say(b"case ");
     say(name);
+    say_way(way);
     say(what);
     1
+}
+
+fn tell(name: &[u8], way: u8, what: &[u8], n: u64) {
+    tell_case(name, way, what);
+    say_number(n);
 }
 
 fn tell_values(got: u64, want: u64) {
@@ -230,13 +251,13 @@ fn tell_bytes(got: u8, want: u8) {
 }
 
 // 1 where the field of the n-th event is not as expected.
-fn field_differs(name: &[u8], n: u64, field: &[u8], got: u64, want: u64) -> u64
+fn field_differs(name: &[u8], way: u8, n: u64, field: &[u8], got: u64, want: u64) -> u64
     ensures { λ r. ⌜ r ≤ 1 ⌝ }
 {
     if got == want {
         return 0;
     }
-    tell(name, b" event ", n);
+    tell(name, way, b" event ", n);
     say(field);
     tell_values(got, want);
     1
@@ -250,6 +271,7 @@ struct Line {
 
 fn line_differs(
     name: &[u8],
+    way: u8,
     want: &[u8],
     from: usize,
     n: u64,
@@ -266,11 +288,11 @@ fn line_differs(
     let coded = find_number(want, kinded.end);
     let placed = find_number(want, coded.end);
     let linked = find_number(want, placed.end);
-    let a = field_differs(name, n, b" number ", n, numbered.value);
-    let b = field_differs(name, n, b" kind ", kind as u64, kinded.value);
-    let c = field_differs(name, n, b" code ", code as u64, coded.value);
-    let d = field_differs(name, n, b" domain ", domain as u64, placed.value);
-    let e = field_differs(name, n, b" links ", links as u64, linked.value);
+    let a = field_differs(name, way, n, b" number ", n, numbered.value);
+    let b = field_differs(name, way, n, b" kind ", kind as u64, kinded.value);
+    let c = field_differs(name, way, n, b" code ", code as u64, coded.value);
+    let d = field_differs(name, way, n, b" domain ", domain as u64, placed.value);
+    let e = field_differs(name, way, n, b" links ", links as u64, linked.value);
     Line {
         differs: a + b + c + d + e,
         end: linked.end,
@@ -302,6 +324,7 @@ fn told(answers: &[u8], i: usize, j: usize) -> u8
 // The answers of a run beside its lines, and that there are as many of the one as of the other.
 fn answers_differ(
     name: &[u8],
+    way: u8,
     events: &[u8],
     answers: &[u8],
     n: usize,
@@ -321,7 +344,7 @@ fn answers_differ(
         let domain = told(answers, i, 1);
         let links = told(answers, i, 2);
         count_answer(seen, kind, code, domain, links);
-        let line = line_differs(name, want, at, i as u64 + 1, kind, code, domain, links);
+        let line = line_differs(name, way, want, at, i as u64 + 1, kind, code, domain, links);
         at = line.end;
         differing += line.differs;
         i += 1;
@@ -329,7 +352,7 @@ fn answers_differ(
     if at == want.len() {
         return differing;
     }
-    tell(name, b" event ", n as u64 + 1);
+    tell(name, way, b" event ", n as u64 + 1);
     say(b" is expected, and does not come\n");
     differing + 1
 }
@@ -385,12 +408,18 @@ fn first_difference(a: &[u8], b: &[u8]) -> usize
 }
 
 // 1 where the image is not the stored one: its first byte that differs, by its record.
-fn image_differs(name: &[u8], image: &[u8], fin: &[u8]) -> u64
-    requires { ⌜ header-size ≤ length (now image) ⌝ }
+fn image_differs(name: &[u8], way: u8, image: &[u8], fin: &[u8]) -> u64
     ensures { λ r. ⌜ r ≤ 1 ⌝ }
 {
+    if image.len() < Header::SIZE {
+        return tell_case(
+            name,
+            way,
+            b" image is accepted, and shorter than a header\n",
+        );
+    }
     if image.len() != fin.len() {
-        tell_case(name, b" image length ");
+        tell_case(name, way, b" image length ");
         tell_values(image.len() as u64, fin.len() as u64);
         return 1;
     }
@@ -398,11 +427,81 @@ fn image_differs(name: &[u8], image: &[u8], fin: &[u8]) -> u64
     if at == image.len() {
         return 0;
     }
-    tell_case(name, b" image");
+    tell_case(name, way, b" image");
     tell_part(image, at);
     say(b" is ");
     tell_bytes(image[at], fin[at]);
     1
+}
+
+// ---- the ways through the library
+
+// The first n bytes of a buffer of answers, as if no answer were there.
+fn forget(answers: &mut [u8], n: usize) {
+    let end = least(n, answers.len());
+    let mut i = 0;
+    while i < end {
+        answers[i] = UNTOLD;
+        i += 1;
+    }
+}
+
+// A run from the event `done` on, with room for a piece; how many more were answered.
+fn run_piece(image: &mut [u8], events: &[u8], done: usize, answers: &mut [u8]) -> usize
+    requires { ⌜ done ≤ 65536 ⌝ }
+    ensures { λ r. ⌜ r ≤ 7 ⌝ }
+{
+    let at = least(done * Event::SIZE, events.len());
+    let from = least(done * ANSWER_SIZE, answers.len());
+    let end = least(from + PIECE_SIZE, answers.len());
+    monitor::monitor_run(image, &events[at..], &mut answers[from..end])
+}
+
+// Piece after piece, each going on behind the last event that was answered, until every one is.
+fn run_in_pieces(image: &mut [u8], events: &[u8], answers: &mut [u8]) -> usize {
+    let mut done = 0;
+    while done <= MOST_EVENTS && done * Event::SIZE < events.len() {
+        let more = run_piece(image, events, done, answers);
+        if more == 0 {
+            return done;
+        }
+        done += more;
+    }
+    done
+}
+
+// The lowest byte of a number, shifted by so many bits.
+fn byte_of(told: u32, shift: u32) -> u8
+    requires { ⌜ shift < 32 ⌝ }
+{
+    ((told >> shift) % 256) as u8
+}
+
+fn set_byte(answers: &mut [u8], at: usize, b: u8) {
+    if at < answers.len() {
+        answers[at] = b;
+    }
+}
+
+// The i-th event as a step of its own, and the three parts of its answer, as bindings/monitor.h takes them apart.
+fn run_step(image: &mut [u8], events: &[u8], i: usize, answers: &mut [u8])
+    requires { ⌜ i ≤ 65536 ⌝ }
+{
+    let at = least(i * Event::SIZE, events.len());
+    let end = least(at + Event::SIZE, events.len());
+    let told = monitor::monitor_step(image, &events[at..end]);
+    set_byte(answers, i * ANSWER_SIZE, byte_of(told, 16));
+    set_byte(answers, i * ANSWER_SIZE + 1, byte_of(told, 8));
+    set_byte(answers, i * ANSWER_SIZE + 2, byte_of(told, 0));
+}
+
+fn run_by_steps(image: &mut [u8], events: &[u8], answers: &mut [u8]) -> usize {
+    let mut i = 0;
+    while i <= MOST_EVENTS && i * Event::SIZE < events.len() {
+        run_step(image, events, i, answers);
+        i += 1;
+    }
+    i
 }
 
 // ---- a case
@@ -415,8 +514,23 @@ fn expects_refusal(want: &[u8], from: usize) -> bool
     at == 8 && want.len() - from == 8
 }
 
-fn accepted_differs(
+// The events of a buffer one way, on an image; how many were answered.
+fn run_by(way: u8, image: &mut [u8], events: &[u8], answers: &mut [u8]) -> usize {
+    if way == PIECES {
+        return run_in_pieces(image, events, answers);
+    }
+    if way == STEPS {
+        return run_by_steps(image, events, answers);
+    }
+    monitor::monitor_run(image, events, answers)
+}
+
+// How many fields differ one way. What came another way stands in neither buffer any more.
+fn way_differs(
     name: &[u8],
+    way: u8,
+    first: &[u8],
+    size: usize,
     image: &mut [u8],
     events: &[u8],
     want: &[u8],
@@ -425,22 +539,110 @@ fn accepted_differs(
     answers: &mut [u8],
     seen: &mut [u64],
 ) -> u64
-    requires { ⌜ header-size ≤ length (now image) ⌝ }
+    requires { ⌜ (size ≤ length (now first)) × (length (now first) ≡ length (now image)) ⌝ }
     requires { ⌜ from ≤ length (now want) ⌝ }
     ensures { λ r. ⌜ r ≤ 400001 ⌝ }
 {
-    let n = monitor::monitor_run(image, events, answers);
+    stream::put_text(image, 0, first);
+    forget(answers, events.len() / 8 + ANSWER_SIZE);
+    let n = run_by(way, &mut image[..size], events, answers);
     if MOST_EVENTS < n {
-        return tell_case(name, b" has too many events\n");
+        return tell_case(name, way, b" has too many events\n");
     }
-    let told = answers_differ(name, events, answers, n, want, from, seen);
-    let kept = image_differs(name, image, fin);
+    let told = answers_differ(name, way, events, answers, n, want, from, seen);
+    let kept = image_differs(name, way, &image[..size], fin);
     told + kept
+}
+
+// The two other ways; what was covered is counted once.
+fn others_differ(
+    name: &[u8],
+    first: &[u8],
+    size: usize,
+    image: &mut [u8],
+    events: &[u8],
+    want: &[u8],
+    from: usize,
+    fin: &[u8],
+    answers: &mut [u8],
+) -> u64
+    requires { ⌜ (size ≤ length (now first)) × (length (now first) ≡ length (now image)) ⌝ }
+    requires { ⌜ from ≤ length (now want) ⌝ }
+    ensures { λ r. ⌜ r ≤ 800002 ⌝ }
+{
+    let mut uncounted = [0u64; 0];
+    let a = way_differs(
+        name,
+        PIECES,
+        first,
+        size,
+        image,
+        events,
+        want,
+        from,
+        fin,
+        answers,
+        &mut uncounted,
+    );
+    let b = way_differs(
+        name,
+        STEPS,
+        first,
+        size,
+        image,
+        events,
+        want,
+        from,
+        fin,
+        answers,
+        &mut uncounted,
+    );
+    a + b
+}
+
+fn accepted_differs(
+    name: &[u8],
+    every_way: bool,
+    first: &[u8],
+    size: usize,
+    image: &mut [u8],
+    events: &[u8],
+    want: &[u8],
+    from: usize,
+    fin: &[u8],
+    answers: &mut [u8],
+    seen: &mut [u64],
+) -> u64
+    requires { ⌜ (size ≤ length (now first)) × (length (now first) ≡ length (now image)) ⌝ }
+    requires { ⌜ from ≤ length (now want) ⌝ }
+    ensures { λ r. ⌜ r ≤ 1200003 ⌝ }
+{
+    let a = way_differs(
+        name,
+        WHOLE,
+        first,
+        size,
+        image,
+        events,
+        want,
+        from,
+        fin,
+        answers,
+        seen,
+    );
+    if !every_way {
+        return a;
+    }
+    let b = others_differ(name, first, size, image, events, want, from, fin, answers);
+    a + b
 }
 
 // How many fields of the case differ.
 fn differences(
     name: &[u8],
+    every_way: bool,
+    first: &[u8],
+    size: usize,
     image: &mut [u8],
     events: &[u8],
     want: &[u8],
@@ -448,30 +650,81 @@ fn differences(
     answers: &mut [u8],
     seen: &mut [u64],
 ) -> u64
-    ensures { λ r. ⌜ r ≤ 400001 ⌝ }
+    requires { ⌜ (size ≤ length (now first)) × (length (now first) ≡ length (now image)) ⌝ }
+    ensures { λ r. ⌜ r ≤ 1200003 ⌝ }
 {
-    let first = find(want, 0, NEWLINE);
-    let from = after(want, first);
+    let from = after(want, find(want, 0, NEWLINE));
     let to_refuse = expects_refusal(want, from);
-    let refused = monitor::monitor_open(image) != 0;
+    let refused = monitor::monitor_open(&first[..size]) != 0;
     if refused && to_refuse {
         return 0;
     }
     if refused {
-        return tell_case(name, b" image is refused, and expected to be accepted\n");
+        return tell_case(
+            name,
+            WHOLE,
+            b" image is refused, and expected to be accepted\n",
+        );
     }
     if to_refuse {
-        return tell_case(name, b" image is accepted, and expected to be refused\n");
+        return tell_case(
+            name,
+            WHOLE,
+            b" image is accepted, and expected to be refused\n",
+        );
     }
-    if image.len() < Header::SIZE {
-        return tell_case(name, b" image is accepted, and shorter than a header\n");
-    }
-    accepted_differs(name, image, events, want, from, fin, answers, seen)
+    accepted_differs(
+        name,
+        every_way,
+        first,
+        size,
+        image,
+        events,
+        want,
+        from,
+        fin,
+        answers,
+        seen,
+    )
+}
+
+// The stream of a case, from its descriptor: an image, and the events behind it.
+fn stream_differs(
+    name: &[u8],
+    every_way: bool,
+    given: i32,
+    first: &mut [u8],
+    image: &mut [u8],
+    events: &mut [u8],
+    want: &[u8],
+    fin: &[u8],
+    answers: &mut [u8],
+    seen: &mut [u64],
+) -> u64
+    requires { ⌜ (length (now first) ≡ largest-image) × (length (now image) ≡ largest-image) ⌝ }
+    ensures { λ r. ⌜ r ≤ 1200003 ⌝ }
+{
+    let i = stream::read_image(given, first);
+    let e = read_rest(given, events);
+    differences(
+        name,
+        every_way,
+        first,
+        i,
+        image,
+        &events[..e],
+        want,
+        fin,
+        answers,
+        seen,
+    )
 }
 
 // A case by its name: its files are read into the buffers, and it is run.
 fn case(
     name: &[u8],
+    every_way: bool,
+    first: &mut [u8],
     image: &mut [u8],
     events: &mut [u8],
     want: &mut [u8],
@@ -479,26 +732,27 @@ fn case(
     answers: &mut [u8],
     seen: &mut [u64],
 ) -> u64
-    requires { ⌜ length (now image) ≡ largest-image ⌝ }
-    ensures { λ r. ⌜ r ≤ 400001 ⌝ }
+    requires { ⌜ (length (now first) ≡ largest-image) × (length (now image) ≡ largest-image) ⌝ }
+    ensures { λ r. ⌜ r ≤ 1200003 ⌝ }
 {
     let given = open_part(name, b".in");
     if given < 0 {
-        return tell_case(name, b".in cannot be read\n");
+        return tell_case(name, WHOLE, b".in cannot be read\n");
     }
     let expected = open_part(name, b".out");
     if expected < 0 {
-        return tell_case(name, b".out cannot be read\n");
+        return tell_case(name, WHOLE, b".out cannot be read\n");
     }
-    let i = stream::read_image(given, image);
-    let e = read_rest(given, events);
     let w = read_rest(expected, want);
     let kept = open_part(name, b".fin");
     let f = read_rest(kept, fin);
-    differences(
+    stream_differs(
         name,
-        &mut image[..i],
-        &events[..e],
+        every_way,
+        given,
+        first,
+        image,
+        events,
         &want[..w],
         &fin[..f],
         answers,
@@ -571,6 +825,8 @@ fn one_if_any(n: u64) -> u64
 
 fn all_cases(
     list: &[u8],
+    every_way: bool,
+    first: &mut [u8],
     image: &mut [u8],
     events: &mut [u8],
     want: &mut [u8],
@@ -578,14 +834,24 @@ fn all_cases(
     answers: &mut [u8],
     seen: &mut [u64],
 )
-    requires { ⌜ length (now image) ≡ largest-image ⌝ }
+    requires { ⌜ (length (now first) ≡ largest-image) × (length (now image) ≡ largest-image) ⌝ }
 {
     let mut run: u64 = 0;
     let mut differing: u64 = 0;
     let mut i = 0;
     while run < MOST_CASES && i < list.len() {
         let end = word_end(list, i);
-        differing += one_if_any(case(&list[i..end], image, events, want, fin, answers, seen));
+        differing += one_if_any(case(
+            &list[i..end],
+            every_way,
+            first,
+            image,
+            events,
+            want,
+            fin,
+            answers,
+            seen,
+        ));
         run += 1;
         i = after(list, find(list, i, NEWLINE));
     }
@@ -603,6 +869,7 @@ fn main() {
     }
     let mut list = io::large_buffer();
     let n = read_rest(cases, &mut list);
+    let mut first = [0u8; 2536];
     let mut image = [0u8; 2536];
     let mut events = io::large_buffer();
     let mut want = io::large_buffer();
@@ -611,6 +878,8 @@ fn main() {
     let mut seen = [0u64; COUNTS];
     all_cases(
         &list[..n],
+        1 < os::arg_count(),
+        &mut first,
         &mut image,
         &mut events,
         &mut want,

@@ -6,10 +6,10 @@ use Rattle.vectors.proofs.all_cases.Statement.{statement}
 use Rattle.vectors.proofs.all_cases.Tie as tie
 
 abbrev Inv-loop : tie.InvT-loop
-Inv-loop list image₀ events₀ want₀ fin₀ answers₀ seen₀ run₀ differing₀ i₀ t12 t13 image events want fin answers seen run differing i = (length image ≡ length image₀) × (length events ≡ length events₀) × (length want ≡ length want₀) × (length fin ≡ length fin₀) × (length answers ≡ length answers₀) × (length seen ≡ length seen₀) × (i ≤ length list) × (differing ≤ run) × (run ≤ 1000000)
+Inv-loop list every-way first₀ image₀ events₀ want₀ fin₀ answers₀ seen₀ run₀ differing₀ i₀ t14 t15 first image events want fin answers seen run differing i = (length first ≡ length first₀) × (length image ≡ length image₀) × (length events ≡ length events₀) × (length want ≡ length want₀) × (length fin ≡ length fin₀) × (length answers ≡ length answers₀) × (length seen ≡ length seen₀) × (i ≤ length list) × (differing ≤ run) × (run ≤ 1000000)
 
 abbrev μ-loop : tie.MeasureT-loop
-μ-loop list image₀ events₀ want₀ fin₀ answers₀ seen₀ run₀ differing₀ i₀ t12 t13 image events want fin answers seen run differing i = 1000000 - run
+μ-loop list every-way first₀ image₀ events₀ want₀ fin₀ answers₀ seen₀ run₀ differing₀ i₀ t14 t15 first image events want fin answers seen run differing i = 1000000 - run
 
 loop-holds : tie.Need-loop-holds Inv-loop μ-loop
 loop-holds c = search needs
@@ -86,6 +86,9 @@ same-length-5 c = search needs
 same-length-6 : tie.Need-same-length-6 Inv-loop μ-loop
 same-length-6 c = search needs
 
+same-length-7 : tie.Need-same-length-7 Inv-loop μ-loop
+same-length-7 c = search needs
+
 returns : tie.Need-returns Inv-loop μ-loop
 returns c = search needs
 
@@ -120,4 +123,5 @@ all-cases-spec =
     same-length-4
     same-length-5
     same-length-6
+    same-length-7
     returns)

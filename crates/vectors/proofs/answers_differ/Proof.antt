@@ -6,10 +6,10 @@ use Rattle.vectors.proofs.answers_differ.Statement.{statement}
 use Rattle.vectors.proofs.answers_differ.Tie as tie
 
 abbrev Inv-loop : tie.InvT-loop
-Inv-loop name events answers n want from seen₀ at₀ differing₀ i₀ t16 t17 seen at differing i = (length seen ≡ length seen₀) × (at ≤ length want) × (differing ≤ 5 * i) × (i ≤ n)
+Inv-loop name way events answers n want from seen₀ at₀ differing₀ i₀ t16 t17 seen at differing i = (length seen ≡ length seen₀) × (at ≤ length want) × (differing ≤ 5 * i) × (i ≤ n)
 
 abbrev μ-loop : tie.MeasureT-loop
-μ-loop name events answers n want from seen₀ at₀ differing₀ i₀ t16 t17 seen at differing i = n - i
+μ-loop name way events answers n want from seen₀ at₀ differing₀ i₀ t16 t17 seen at differing i = n - i
 
 loop-holds : tie.Need-loop-holds Inv-loop μ-loop
 loop-holds c = search needs

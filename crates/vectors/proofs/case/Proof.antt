@@ -34,14 +34,8 @@ tell-case-requires-2 c κs = search needs
 returns-2 : tie.Need-returns-2
 returns-2 c = search needs
 
-read-image-requires : tie.Need-read-image-requires
-read-image-requires c κs = search needs
-
 read-rest-requires : tie.Need-read-rest-requires
 read-rest-requires c κs = search needs
-
-read-rest-requires-2 : tie.Need-read-rest-requires-2
-read-rest-requires-2 c κs = search needs
 
 slice-aggregate-open-part-3 : tie.Need-slice-aggregate-open-part-3
 slice-aggregate-open-part-3 c = search needs
@@ -49,35 +43,23 @@ slice-aggregate-open-part-3 c = search needs
 open-part-requires-3 : tie.Need-open-part-requires-3
 open-part-requires-3 c κs = search needs
 
-read-rest-requires-3 : tie.Need-read-rest-requires-3
-read-rest-requires-3 c κs = search needs
+read-rest-requires-2 : tie.Need-read-rest-requires-2
+read-rest-requires-2 c κs = search needs
 
-slice-relend-prefix-differences : tie.Need-slice-relend-prefix-differences
-slice-relend-prefix-differences c = search needs
+slice-reshare-prefix-stream-differs : tie.Need-slice-reshare-prefix-stream-differs
+slice-reshare-prefix-stream-differs c = search needs
 
-slice-aggregate-differences : tie.Need-slice-aggregate-differences
-slice-aggregate-differences c = sym (length-take-le _ _ (search needs))
+slice-aggregate-stream-differs : tie.Need-slice-aggregate-stream-differs
+slice-aggregate-stream-differs c = sym (length-take-le _ _ (search needs))
 
-slice-reshare-prefix-differences : tie.Need-slice-reshare-prefix-differences
-slice-reshare-prefix-differences c = search needs
+slice-reshare-prefix-stream-differs-2 : tie.Need-slice-reshare-prefix-stream-differs-2
+slice-reshare-prefix-stream-differs-2 c = search needs
 
-slice-aggregate-differences-2 : tie.Need-slice-aggregate-differences-2
-slice-aggregate-differences-2 c = sym (length-take-le _ _ (search needs))
+slice-aggregate-stream-differs-2 : tie.Need-slice-aggregate-stream-differs-2
+slice-aggregate-stream-differs-2 c = sym (length-take-le _ _ (search needs))
 
-slice-reshare-prefix-differences-2 : tie.Need-slice-reshare-prefix-differences-2
-slice-reshare-prefix-differences-2 c = search needs
-
-slice-aggregate-differences-3 : tie.Need-slice-aggregate-differences-3
-slice-aggregate-differences-3 c = sym (length-take-le _ _ (search needs))
-
-slice-reshare-prefix-differences-3 : tie.Need-slice-reshare-prefix-differences-3
-slice-reshare-prefix-differences-3 c = search needs
-
-slice-aggregate-differences-4 : tie.Need-slice-aggregate-differences-4
-slice-aggregate-differences-4 c = sym (length-take-le _ _ (search needs))
-
-differences-requires : tie.Need-differences-requires
-differences-requires c κs = search needs
+stream-differs-requires : tie.Need-stream-differs-requires
+stream-differs-requires c κs = search needs
 
 same-length : tie.Need-same-length
 same-length c = search needs
@@ -97,6 +79,9 @@ same-length-5 c = search needs
 same-length-6 : tie.Need-same-length-6
 same-length-6 c = search needs
 
+same-length-7 : tie.Need-same-length-7
+same-length-7 c = search needs
+
 returns-3 : tie.Need-returns-3
 returns-3 c = search needs
 
@@ -114,25 +99,20 @@ case-spec =
     slice-aggregate-tell-case-2
     tell-case-requires-2
     returns-2
-    read-image-requires
     read-rest-requires
-    read-rest-requires-2
     slice-aggregate-open-part-3
     open-part-requires-3
-    read-rest-requires-3
-    slice-relend-prefix-differences
-    slice-aggregate-differences
-    slice-reshare-prefix-differences
-    slice-aggregate-differences-2
-    slice-reshare-prefix-differences-2
-    slice-aggregate-differences-3
-    slice-reshare-prefix-differences-3
-    slice-aggregate-differences-4
-    differences-requires
+    read-rest-requires-2
+    slice-reshare-prefix-stream-differs
+    slice-aggregate-stream-differs
+    slice-reshare-prefix-stream-differs-2
+    slice-aggregate-stream-differs-2
+    stream-differs-requires
     same-length
     same-length-2
     same-length-3
     same-length-4
     same-length-5
     same-length-6
+    same-length-7
     returns-3)

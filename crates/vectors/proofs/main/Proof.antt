@@ -46,6 +46,9 @@ array-share-prefix-list c = search needs
 slice-aggregate-all-cases : tie.Need-slice-aggregate-all-cases
 slice-aggregate-all-cases c = sym (length-take-le _ _ (search needs))
 
+arg-count-requires : tie.Need-arg-count-requires
+arg-count-requires c κs = search needs
+
 slice-aggregate-all-cases-2 : tie.Need-slice-aggregate-all-cases-2
 slice-aggregate-all-cases-2 c = search needs
 
@@ -63,6 +66,9 @@ slice-aggregate-all-cases-6 c = search needs
 
 slice-aggregate-all-cases-7 : tie.Need-slice-aggregate-all-cases-7
 slice-aggregate-all-cases-7 c = search needs
+
+slice-aggregate-all-cases-8 : tie.Need-slice-aggregate-all-cases-8
+slice-aggregate-all-cases-8 c = search needs
 
 all-cases-requires : tie.Need-all-cases-requires
 all-cases-requires c κs = search needs
@@ -94,12 +100,14 @@ main-spec =
     large-buffer-requires-4
     array-share-prefix-list
     slice-aggregate-all-cases
+    arg-count-requires
     slice-aggregate-all-cases-2
     slice-aggregate-all-cases-3
     slice-aggregate-all-cases-4
     slice-aggregate-all-cases-5
     slice-aggregate-all-cases-6
     slice-aggregate-all-cases-7
+    slice-aggregate-all-cases-8
     all-cases-requires
     slice-aggregate-report
     report-requires
