@@ -8,7 +8,7 @@ use lib.Dec.{ltb→lt}
 use lib.ListN.{length}
 use Rattle.records.specs.declared.Certificate.{Certificate}
 use Rattle.records.specs.declared.Executable.{Executable}
-use Rattle.rules.specs.Words.{any, Check, _⇒_, first}
+use Rattle.rules.specs.Words.{any, _⇒_, first}
 use Rattle.rules.specs.Codes.{has-id, is-executable}
 use Rattle.rules.proofs.Accepts.{true-T}
 use Rattle.lookup.specs.declared.Room.{Room}

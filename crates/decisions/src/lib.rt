@@ -338,6 +338,7 @@ pub fn install_certificate(s: &[u8], e: Event) -> Plan
     if !chain::is_present(s, c) {
         return Plan { code: 8, slot: 0 };
     }
+    // Told behind 9 and 10, and before 14.
     let other = of_other_card(s, c);
     match lookup::certificate_room(s, e.id, e.key, e.fourth) {
         CertificateRoom::Taken => Plan { code: 9, slot: 0 },

@@ -73,7 +73,7 @@ pub fn executable_room(s: &[u8], id: u16) -> Room
     Room::Free(slot)
 }
 
-// The same for a certificate, whose key may also stand in another domain.
+// The same for a certificate, which may also find that one of another domain has its key.
 pub enum CertificateRoom {
     Taken,
     Elsewhere,
@@ -105,6 +105,7 @@ pub fn certificate_room(s: &[u8], id: u16, key: u32, domain: u8) -> CertificateR
             return CertificateRoom::Taken;
         }
         if in_another(c, key, domain) {
+            // An id that is taken is told first, and the slots below have not been asked.
             if certificate_slot(s, id) < slots {
                 return CertificateRoom::Taken;
             }
