@@ -1,50 +1,54 @@
--- What the code's shifts and masks are in plain arithmetic, and what a put digit changes. Assumes nothing.
+-- What the code's shifts and masks are in plain arithmetic, in words of any width, and what a put digit changes. Assumes nothing.
 use mathlib.Core.Path.{_≡_, sym, ap, ap₂, _∙_, subst}
-use Prim.Native.Nat.{ℕ, suc, _+_, _-_, _*_, _/_, _%_, _^_, _<_, _≤_}
-use native.Mathlib.Nat.{mod-lt, add-zero, one-mul, mod-eq-of-lt, mul-comm, mod-mod, mul-sub, max-eq-right, le-of-suc-le-suc}
+use Prim.Native.Nat.{ℕ, suc, _+_, _-_, _*_, _/_, _%_, _^_, _<_, _≤_, max}
+use native.Mathlib.Nat.{mod-lt, add-zero, one-mul, mod-eq-of-lt, div-eq-of-lt, mul-comm, mod-mod, mul-sub, mul-le-mul-right, max-eq-right, le-of-suc-le-suc}
 use native.Mathlib.Omega.{arith}
 use lib.Pow.{field, mod-mod-pow, pow-pos, pow-add, pow-mono, ones-lt, split, high, low, shl-exact, shr-lt, shr-shr}
 use native.Mathlib.Decide.{decLt}
-use lib.Bits.{bitAnd, bitOr, and-mask, or-block, and-block, or-step, or-zero-r, and-high}
+use lib.Bits.{bitAnd, bitOr, and-mask, or-block, and-block, or-step, or-zero-r, or-shr, or-mod, and-high}
 use lib.Arith.{digits-lt}
 use lib.Dec.{lit<}
 use Rattle.bits.specs.Bits.{digit, put-digit}
 
--- 1 << k at a u32
-pub one-shl : (k : ℕ) → k < 32 → 1 * 2 ^ k % 4294967296 ≡ 2 ^ k
-one-shl k h = shl-exact 1 k 32 (lit< tt) (omega arith) ∙ one-mul (2 ^ k)
+-- 1 << k in n bits
+one-shl : (n k : ℕ) → k < n → 1 * 2 ^ k % 2 ^ n ≡ 2 ^ k
+one-shl n k h = shl-exact 1 k n (lit< tt) (omega arith) ∙ one-mul (2 ^ k)
 
 or-one : (x : ℕ) → bitOr x 1 ≡ x / 2 * 2 + 1
 or-one x =
     or-step x 1
     ∙ ap₂ (λ (a b : ℕ). a * 2 + b) (or-zero-r (x / 2)) (max-eq-right (le-of-suc-le-suc (mod-lt x (lit< tt))))
 
-pub or-put : (w k : ℕ) → k < 32 → bitOr w (1 * 2 ^ k % 4294967296) ≡ put-digit w k 1
+pub or-put : (n w k : ℕ) → k < n → bitOr w (1 * 2 ^ k % 2 ^ n) ≡ put-digit w k 1
 unfolding put-digit
-or-put w k h =
-    ap₂ bitOr (sym (split w k)) (one-shl k h ∙ sym (one-mul (2 ^ k)) ∙ sym (add-zero (1 * 2 ^ k)))
+or-put n w k h =
+    ap₂ bitOr (sym (split w k)) (one-shl n k h ∙ sym (one-mul (2 ^ k)) ∙ sym (add-zero (1 * 2 ^ k)))
     ∙ or-block k (w / 2 ^ k) 1 (w % 2 ^ k) 0 (mod-lt w (pow-pos k)) (pow-pos k)
     ∙ ap₂ (λ (x y : ℕ). x * 2 ^ k + y) (or-one (w / 2 ^ k)) (or-zero-r (w % 2 ^ k))
 
-mask : (k : ℕ) → k < 32 → 4294967295 - 2 ^ k ≡ (2 ^ ((31 - k) + 1) - 2 ^ 1) * 2 ^ k + (2 ^ k - 1)
-mask k h =
+-- j bits above bit k, and k below it
+mask : (j k : ℕ) → (2 ^ ((j + 1) + k) - 1) - 2 ^ k ≡ (2 ^ (j + 1) - 2 ^ 1) * 2 ^ k + (2 ^ k - 1)
+mask j k =
     let P = 2 ^ k in
-    let s : ((31 - k) + 1) + k ≡ 32 = omega arith in
-    let Q = 2 ^ ((31 - k) + 1) in
-    let e : Q * P ≡ 4294967296 = sym (pow-add 2 ((31 - k) + 1) k) ∙ ap (λ (n : ℕ). 2 ^ n) s in
-    let l : P ≤ 2147483648 = pow-mono {i = k} {j = 31} (omega arith) in
+    let Q = 2 ^ (j + 1) in
+    let e : Q * P ≡ 2 ^ ((j + 1) + k) = sym (pow-add 2 (j + 1) k) in
+    let l : 2 * P ≤ Q * P = mul-le-mul-right P (pow-mono {i = 1} {j = j + 1} (omega arith)) in
     let d : (Q - 2) * P ≡ P * Q - P * 2 = mul-comm (Q - 2) P ∙ mul-sub P Q 2 in
     omega (arith, mul-comm Q P, pow-pos k)
 
 above : (w k j n : ℕ) → n ≡ j + (k + 1) → w < 2 ^ n → w / 2 ^ k / 2 < 2 ^ j
 above w k j n s h = rw (shr-shr w k 1) (shr-lt j (k + 1) (subst (λ (n : ℕ). w < 2 ^ n) s h))
 
-pub and-put : (w k : ℕ) → w < 2 ^ 32 → k < 32 → bitAnd w (4294967295 - 1 * 2 ^ k % 4294967296) ≡ put-digit w k 0
+pub and-put : (n w k : ℕ) → w < 2 ^ n → k < n → bitAnd w ((2 ^ n - 1) - 1 * 2 ^ k % 2 ^ n) ≡ put-digit w k 0
 unfolding put-digit
-and-put w k hw h =
-    ap₂ bitAnd (sym (split w k)) (ap (λ (x : ℕ). 4294967295 - x) (one-shl k h) ∙ mask k h)
-    ∙ and-block k (w / 2 ^ k) (2 ^ ((31 - k) + 1) - 2 ^ 1) (w % 2 ^ k) (2 ^ k - 1) (mod-lt w (pow-pos k)) (ones-lt k)
-    ∙ ap₂ (λ (x y : ℕ). x * 2 ^ k + y) (and-high (w / 2 ^ k) (31 - k) 1 ∙ ap (λ (x : ℕ). x * 2) (mod-eq-of-lt (above w k (31 - k) 32 (omega arith) hw)) ∙ sym (add-zero (w / 2 ^ k / 2 * 2))) (and-mask (w % 2 ^ k) k ∙ mod-mod w (2 ^ k))
+and-put n w k hw h =
+    let j : ℕ = n - k - 1 in
+    let e : (j + 1) + k ≡ n = omega arith in
+    ap₂ bitAnd (sym (split w k)) (ap (λ (x : ℕ). (2 ^ n - 1) - x) (one-shl n k h) ∙ ap (λ (m : ℕ). (2 ^ m - 1) - 2 ^ k) (sym e) ∙ mask j k)
+    ∙ and-block k (w / 2 ^ k) (2 ^ (j + 1) - 2 ^ 1) (w % 2 ^ k) (2 ^ k - 1) (mod-lt w (pow-pos k)) (ones-lt k)
+    ∙ ap₂ (λ (x y : ℕ). x * 2 ^ k + y)
+    (and-high (w / 2 ^ k) j 1 ∙ ap (λ (x : ℕ). x * 2) (mod-eq-of-lt (above w k j n (omega arith) hw)) ∙ sym (add-zero (w / 2 ^ k / 2 * 2)))
+    (and-mask (w % 2 ^ k) k ∙ mod-mod w (2 ^ k))
 
 -- ---- a put digit is there, and every other digit is as it was
 
@@ -108,3 +112,27 @@ put-digit-small w k b n h l hb =
   where
     whole : (j : ℕ) → (j + 1) + k ≡ n → 2 ^ j * 2 * 2 ^ k ≡ 2 ^ n
     whole j s = ap (λ (x : ℕ). x * 2 ^ k) (sym (pow-add 2 j 1)) ∙ sym (pow-add 2 (j + 1) k) ∙ ap (λ (x : ℕ). 2 ^ x) s
+
+-- ---- a digit set above all others is added
+
+pub put-above : (w k : ℕ) → w < 2 ^ k → put-digit w k 1 ≡ w + 2 ^ k
+unfolding put-digit
+put-above w k h = rw (div-eq-of-lt h, mod-eq-of-lt h) (omega (arith, one-mul (2 ^ k)))
+
+-- ---- a digit set in one of two words is set in both together
+
+or-odd : (a b : ℕ) → bitOr a b / 2 * 2 + 1 ≡ bitOr a (b / 2 * 2 + 1)
+or-odd a b =
+    let h : (b / 2 * 2 + 1) / 2 ≡ b / 2 = omega arith in
+    let o : (b / 2 * 2 + 1) % 2 ≡ 1 = omega arith in
+    let s : bitOr a (b / 2 * 2 + 1) ≡ bitOr (a / 2) (b / 2) * 2 + max (a % 2) 1 =
+    or-step a (b / 2 * 2 + 1) ∙ ap₂ (λ (x y : ℕ). bitOr (a / 2) x * 2 + max (a % 2) y) h o in
+    omega (arith, or-step a b)
+
+pub or-set : (a b k : ℕ) → put-digit (bitOr a b) k 1 ≡ bitOr a (put-digit b k 1)
+unfolding put-digit
+or-set a b k =
+    rw (or-shr a b k, or-mod a b k)
+    (ap (λ (x : ℕ). x * 2 ^ k + bitOr (a % 2 ^ k) (b % 2 ^ k)) (or-odd (a / 2 ^ k) (b / 2 ^ k))
+    ∙ sym (or-block k (a / 2 ^ k) (b / 2 ^ k / 2 * 2 + 1) (a % 2 ^ k) (b % 2 ^ k) (mod-lt a (pow-pos k)) (mod-lt b (pow-pos k)))
+    ∙ ap (λ (x : ℕ). bitOr x ((b / 2 ^ k / 2 * 2 + 1) * 2 ^ k + b % 2 ^ k)) (split a k))

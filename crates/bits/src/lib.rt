@@ -1,4 +1,6 @@
-// One action's bit in a word of 32: tested, set and cleared by a shift and a mask.
+// One action's bit in a word of 32: tested, set and cleared by a shift and a mask. Words of 64 are in `slots`.
+pub mod slots;
+
 ghost use mathlib.Core.Path.{_≡_};
 ghost use Prim.Native.Nat.{_<_};
 ghost use Rattle.bits.specs.Bits.{has-bit, set-bit, clear-bit};

@@ -1,5 +1,7 @@
 pub mod Good
-pub mod Among
+pub mod Words
+pub mod Sorting
 pub mod Rounds
 pub mod Levels
+pub mod Slot
 pub mod Holders

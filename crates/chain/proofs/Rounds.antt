@@ -1,261 +1,280 @@
--- The good keys of a domain, round by round: a list that grows, and what is left to look at. Assumes nothing.
-use Prim.Native.Nat.{ℕ, suc, _+_, _-_, _≤_, _<_}
-use mathlib.Core.Bool.{Bool, true, false, not, _&&_, _||_, and-true, and-false, or-false, false≢true}
-use mathlib.Core.List.{List, [], _∷_, List·Memᴰ}
-use mathlib.Core.Logic.{_≢_, _⊎_, inl, inr}
+-- The good slots of a domain, round by round: only the slots that the last round added can make another one good. Assumes nothing.
+use Prim.Native.Nat.{ℕ, suc, _+_, _-_, _^_, _<_}
+use mathlib.Core.Bool.{Bool, true, false, not, _&&_, _||_, and-true}
+use mathlib.Core.Logic.{_≢_}
 use mathlib.Core.Path.{_≡_, refl, sym, ap, ap₂, _∙_, subst}
 use native.Mathlib.Omega.{arith}
 use borrow.Author.Tests.{eq-eqb, ne-eqb}
-use lib.Dec.{T, eqb, ltb, ltb→lt}
-use lib.ListN.{length, getD, set, drop}
-use Rattle.records.specs.Phone.{Trust, no-certificate}
+use lib.Bits.{bitOr, bitXor}
+use lib.Dec.{T, eqb}
+use lib.ListN.{length}
+use lib.Pow.{pow-mono}
+use Rattle.records.specs.Phone.{Trust}
 use Rattle.records.specs.declared.Certificate.{Certificate}
 use Rattle.records.specs.declared.Executable.{Executable}
+use Rattle.bits.specs.Words.{word, any-of, keep}
+use Rattle.bits.proofs.Words.{any-nothing, keep-lt, keep-none, word-lt, word-none, word-same, word-or, word-less, keep-word}
 use Rattle.rules.specs.Words.{any}
-use Rattle.rules.specs.Chains.{present, in-date, trusted-root, link, valid-root, serves, good, within, chains-to}
-use Rattle.rules.proofs.Tests.{tests, is, tnsi, and-l, and-r, or-i, or-cases}
-use Rattle.rules.proofs.Lists.{any-out, any-in}
-use Rattle.rules.proofs.Loops.{any-rest, any-end}
-use Rattle.rules.proofs.Slots.{any-not}
-use Rattle.chain.specs.Keys.{slot, among, Lists, good-key, chained-in, candidate, Candidates}
-use Rattle.chain.proofs.Good.{same}
-use Rattle.chain.proofs.Among.{among-more, among-first, among-none}
+use Rattle.rules.specs.Chains.{trusted-root, link, serves, good, within, chains-to}
+use Rattle.rules.proofs.Tests.{is}
+use Rattle.chain.specs.declared.Sorted.{Sorted}
+use Rattle.chain.specs.Keys.{chained-in, within-domain, Sorted-as, new-after, left-after, verified-by, Round-of, good-slots}
+use Rattle.chain.proofs.Good.{good-more}
+use Rattle.chain.proofs.Sorting.{unrooted}
+use Rattle.chain.proofs.Words.{any-none, any-same, any-or, word-any, Going}
 
--- ---- what is listed, a, and what is left, of which b is the first: together they tell w
+-- ---- the words of one domain
 
-module _ (b a r w : Bool) (inv : (a || (b || r)) ≡ w) where
-  pub passed : b ≡ false → (a || r) ≡ w
-  passed h = ap (λ x. a || (x || r)) (sym h) ∙ inv
+module _ (t : Trust) (d : ℕ) where
+  pub within-lt : (f : Certificate → Bool) (w : ℕ) → w ≡ within-domain t d f → w < 2 ^ length (t .certificates)
+  unfolding within-domain
+  within-lt f w e = subst (λ k. k < 2 ^ length (t .certificates)) (sym e) (word-lt (λ c. f c && eqb (c .domain) d) (t .certificates))
 
-  pub taken : ((b || a) || r) ≡ w
-  taken = go b a ∙ inv
+  within-same : (f g : Certificate → Bool) → ((c : Certificate) → f c ≡ g c) → within-domain t d f ≡ within-domain t d g
+  unfolding within-domain
+  within-same f g h =
+      word-same (λ c. f c && eqb (c .domain) d) (λ c. g c && eqb (c .domain) d) (λ c. ap (λ b. b && eqb (c .domain) d) (h c)) (t .certificates)
+
+  -- ---- no round, and one
+
+  served-none : (k : ℕ) (e : ℕ) → any (serves (good 0 t) e k) (t .certificates) ≡ false
+  unfolding serves good
+  served-none k e = any-none (serves (good 0 t) e k) (λ c. go (eqb (c .domain) e) (eqb (c .key) k)) (t .certificates)
     where
-      go : (b a : Bool) → ((b || a) || r) ≡ (a || (b || r))
+      go : (a b : Bool) → (a && b && false) ≡ false
       go true true = refl
       go true false = refl
-      go false a = refl
+      go false b = refl
 
-  -- what is listed already need not be listed again
-  pub known : (b ≡ true → a ≡ true) → (a || r) ≡ w
-  known h = go b a h ∙ inv
+  good-one : (c : Certificate) → trusted-root (t .seen) c ≡ good 1 t c
+  unfolding good
+  good-one c = rw (served-none (c .verifying) (c .domain)) (go (trusted-root (t .seen) c) (link (t .seen) c))
     where
-      go : (b a : Bool) → (b ≡ true → a ≡ true) → (a || r) ≡ (a || (b || r))
-      go true a h = ap (λ x. x || r) (h refl) ∙ ap (λ x. x || true) (sym (h refl))
-      go false a h = refl
+      go : (a b : Bool) → a ≡ (a || (b && false))
+      go true b = refl
+      go false true = refl
+      go false false = refl
 
-pub ended : (a r w : Bool) → (a || r) ≡ w → r ≡ false → a ≡ w
-ended true r w inv h = inv
-ended false r w inv h = sym h ∙ inv
+  new-one : (c : Certificate) → good 1 t c ≡ new-after 0 t c
+  unfolding new-after good
+  new-one c = sym (and-true (good 1 t c))
 
--- ---- candidates
-
-module _ (t : Trust) (d : ℕ) (c : Certificate) where
-  pub candidate-elsewhere : c .domain ≢ d → false ≡ candidate t d c
-  unfolding candidate
-  candidate-elsewhere h = rw (ne-eqb (c .domain) d h)
-
-  pub candidate-absent : present (t .seen) c ≡ false → false ≡ candidate t d c
-  unfolding candidate trusted-root link
-  candidate-absent h = none (eqb (c .domain) d) (valid-root (t .seen .clock) c && eqb (c .enabled) 1) (eqb (c .kind) 1 && in-date (t .seen .clock) c) (present (t .seen) c) h
+  left-one : (c : Certificate) → link (t .seen) c ≡ left-after 0 t c
+  unfolding left-after
+  left-one c = go (link (t .seen) c) (good 1 t c) (λ h. sym (good-one c) ∙ unrooted (t .seen) c h)
     where
-      none : (a r l p : Bool) → p ≡ false → false ≡ (a && ((r && p) || (l && p)))
-      none a r l true h = absurd (false≢true (sym h))
-      none true true true false h = refl
-      none true true false false h = refl
-      none true false true false h = refl
-      none true false false false h = refl
-      none false r l false h = refl
+      go : (a b : Bool) → (T a → b ≡ false) → a ≡ (a && not b)
+      go true b h = rw (h tt)
+      go false b h = refl
 
-  pub candidate-root : c .domain ≡ d → c .kind ≡ 0 → (b : Bool) → b ≡ trusted-root (t .seen) c → b ≡ candidate t d c
-  unfolding candidate link
-  candidate-root h k b e =
-      rw (eq-eqb (c .domain) d h, ne-eqb (c .kind) 1 (λ q. omega (arith, k, q))) (e ∙ sym (or-false (trusted-root (t .seen) c)))
+  pub round-none : (n : ℕ) → n ≡ 0 → 0 ≡ within-domain t d (good n t)
+  unfolding good within-domain
+  round-none n z =
+      sym (word-none (λ c. good 0 t c && eqb (c .domain) d) (λ c. refl) (t .certificates))
+      ∙ ap (λ k. word (λ c. good k t c && eqb (c .domain) d) (t .certificates)) (sym z)
 
-  pub candidate-issued : c .domain ≡ d → c .kind ≢ 0 → (b : Bool) → b ≡ link (t .seen) c → b ≡ candidate t d c
-  unfolding candidate trusted-root valid-root
-  candidate-issued h k b e = rw (eq-eqb (c .domain) d h, ne-eqb (c .kind) 0 k) e
+  pub round-one : (r : Sorted) → Sorted-as t d r → Round-of 0 t d (r .roots) (r .roots) (r .links)
+  round-one r s =
+      record {
+        good = s .roots ∙ within-same (trusted-root (t .seen)) (good 1 t) good-one;
+        fresh = s .roots ∙ within-same (trusted-root (t .seen)) (new-after 0 t) (λ c. good-one c ∙ new-one c);
+        left = s .links ∙ within-same (link (t .seen)) (left-after 0 t) left-one;
+      }
 
-module _ (t : Trust) (d : ℕ) (f : Certificate → Bool) where
-  -- what the slots from i on tell of f
-  abbrev pub still : ℕ → Bool
-  still i = any (λ c. candidate t d c && f c) (drop i (t .certificates))
+  -- ---- one round more
 
-  abbrev pub listed : List ℕ → ℕ → Bool
-  listed l k = among (λ j. f (slot t j)) l k
-
-  pub list-begin : (l : List ℕ) → (listed l 0 || still 0) ≡ still 0
-  unfolding among
-  list-begin l = refl
-
-  pub list-end : (l : List ℕ) (k i : ℕ) → (listed l k || still i) ≡ still 0 → length (t .certificates) ≤ i → listed l k ≡ still 0
-  list-end l k i inv h = ended (listed l k) (still i) (still 0) inv (any-end no-certificate (t .certificates) i (λ c. candidate t d c && f c) h)
-
-  module _ (l : List ℕ) (k i : ℕ) (h : i < length (t .certificates)) (c : Certificate) (q : c ≡ slot t i) (b : Bool) (e : b ≡ candidate t d c) (inv : (listed l k || still i) ≡ still 0) where
-    here : (listed l k || ((b && f (slot t i)) || still (i + 1))) ≡ still 0
-    here =
-        ap (λ x. listed l k || ((x && f (slot t i)) || still (i + 1))) (e ∙ ap (candidate t d) q)
-        ∙ ap (λ x. listed l k || x) (sym (any-rest no-certificate (t .certificates) i (λ c. candidate t d c && f c) h))
-        ∙ inv
-
-    pub list-skip : b ≡ false → (listed l k || still (i + 1)) ≡ still 0
-    list-skip z = passed (b && f (slot t i)) (listed l k) (still (i + 1)) (still 0) here (ap (λ x. x && f (slot t i)) z)
-
-    pub list-take : b ≡ true → k < length l → (listed (set l k i) (k + 1) || still (i + 1)) ≡ still 0
-    list-take z s =
-        ap (λ x. x || still (i + 1)) (among-more (λ j. f (slot t j)) l k i s)
-        ∙ taken (f (slot t i)) (listed l k) (still (i + 1)) (still 0) (ap (λ x. listed l k || ((x && f (slot t i)) || still (i + 1))) (sym z) ∙ here)
-
--- ---- one round
-
-module _ (t : Trust) (slots before : List ℕ) (size count v : ℕ) where
-  -- the key v is that of slot j, which the keys of the round before reach
-  abbrev pub reached : ℕ → Bool
-  reached j = eqb (slot t j .key) v && (eqb (slot t j .kind) 0 || among (λ x. eqb x (slot t j .verifying)) before count)
-
-  abbrev pub found : List ℕ → ℕ → Bool
-  found l k = among (λ x. eqb x v) l k
-
-  pub round-begin : (l : List ℕ) → (found l 0 || among reached slots size) ≡ among reached slots size
-  unfolding among
-  round-begin l = refl
-
-  pub round-end : (l : List ℕ) (n k : ℕ) → (found l n || among reached slots k) ≡ among reached slots size → k ≡ 0 → found l n ≡ among reached slots size
-  round-end l n k inv h = ended (found l n) (among reached slots k) (among reached slots size) inv (among-none reached slots k h)
-
-  module _ (l : List ℕ) (n i k : ℕ) (e : i ≡ k - 1) (z : 0 < k) (c : Certificate) (q : c ≡ slot t (getD slots i 0)) (b : Bool)
-      (r : b ≡ (eqb (c .kind) 0 || among (λ x. eqb x (c .verifying)) before count))
-      (inv : (found l n || among reached slots k) ≡ among reached slots size) where
-    next : (found l n || ((eqb (c .key) v && b) || among reached slots i)) ≡ among reached slots size
-    next =
-        ap (λ x. found l n || ((eqb (c .key) v && x) || among reached slots i)) r
-        ∙ ap (λ x. found l n || ((eqb (x .key) v && (eqb (x .kind) 0 || among (λ y. eqb y (x .verifying)) before count)) || among reached slots i)) q
-        ∙ ap (λ x. found l n || x) (sym (among-first reached slots i k e z))
-        ∙ inv
-
-    pub round-skip : b ≡ false → (found l n || among reached slots i) ≡ among reached slots size
-    round-skip h = passed (eqb (c .key) v && b) (found l n) (among reached slots i) (among reached slots size) next (ap (λ x. eqb (c .key) v && x) h ∙ and-false (eqb (c .key) v))
-
-    pub round-take : b ≡ true → n < length l → (found (set l n (c .key)) (n + 1) || among reached slots i) ≡ among reached slots size
-    round-take h s =
-        ap (λ x. x || among reached slots i) (among-more (λ x. eqb x v) l n (c .key) s)
-        ∙ taken (eqb (c .key) v) (found l n) (among reached slots i) (among reached slots size) (ap (λ x. found l n || (x || among reached slots i)) (sym (and-true (eqb (c .key) v)) ∙ ap (λ x. eqb (c .key) v && x) (sym h)) ∙ next)
-
--- ---- what a round says of good keys
-
-pub any-same : (f g : Certificate → Bool) (l : List Certificate) → ((c : Certificate) → f c ≡ g c) → any f l ≡ any g l
-unfolding any
-any-same f g [] h = refl
-any-same f g (c ∷ l) h = ap₂ (λ x y. x || y) (h c) (any-same f g l h)
-
--- k is whether the key is asked for, z whether the record is a root, r whether it is trusted, l whether it is a link, x whether it is served
-cases : (k z r l x : Bool) → (T r → T z) → (T l → T (not z)) → ((r || l) && (k && (z || x))) ≡ (k && (r || (l && x)))
-cases k true true l x f h = refl
-cases k false true l x f h = absurd (f tt)
-cases k true false true x f h = absurd (h tt)
-cases k false false true x f h = refl
-cases true z false false x f h = refl
-cases false z false false x f h = refl
-
-module _ (n : ℕ) (t : Trust) (d : ℕ) (g : ℕ → Bool) (at : (x : ℕ) → g x ≡ good-key n t d x) (c : Certificate) where
-  root-kind : T (trusted-root (t .seen) c) → T (eqb (c .kind) 0)
-  unfolding trusted-root valid-root
-  root-kind h = search tests
-
-  link-kind : T (link (t .seen) c) → T (not (eqb (c .kind) 0))
-  unfolding link
-  link-kind h =
-      let a : T (eqb (c .kind) 1) = search tests in
-      let e = is (c .kind) 1 a in
-      tnsi (c .kind) 0 (λ z. omega (arith, e, z))
-
-  -- a record of the domain, by what the keys of the round before reach
-  of-domain : c .domain ≡ d → (k : Bool) → ((trusted-root (t .seen) c || link (t .seen) c) && (k && (eqb (c .kind) 0 || g (c .verifying)))) ≡ (k && good (suc n) t c)
-  unfolding good good-key
-  of-domain e k =
-      cases k (eqb (c .kind) 0) (trusted-root (t .seen) c) (link (t .seen) c) (g (c .verifying)) root-kind link-kind
-      ∙ ap (λ x. k && (trusted-root (t .seen) c || (link (t .seen) c && x))) (at (c .verifying) ∙ ap (λ y. any (serves (good n t) y (c .verifying)) (t .certificates)) (sym e))
-
-  good-one : (v : ℕ) → (candidate t d c && (eqb (c .key) v && (eqb (c .kind) 0 || g (c .verifying)))) ≡ serves (good (suc n) t) d v c
-  unfolding candidate serves
-  good-one v = go (eqb (c .domain) d) refl
+  grows : (n : ℕ) (c : Certificate) → good (suc n) t c ≡ (good n t c || new-after n t c)
+  unfolding new-after
+  grows n c = go (good n t c) (good (suc n) t c) (good-more n t c)
     where
-      go : (b : Bool) → eqb (c .domain) d ≡ b
-          → ((b && (trusted-root (t .seen) c || link (t .seen) c)) && (eqb (c .key) v && (eqb (c .kind) 0 || g (c .verifying)))) ≡ (b && eqb (c .key) v && good (suc n) t c)
-      go true e = of-domain (is (c .domain) d (subst T (sym e) tt)) (eqb (c .key) v)
-      go false e = refl
+      go : (a b : Bool) → (T a → T b) → b ≡ (a || (b && not a))
+      go true true h = refl
+      go true false h = absurd (h tt)
+      go false true h = refl
+      go false false h = refl
 
-  pub good-record : c .domain ≡ d → (candidate t d c && (eqb (c .kind) 0 || g (c .verifying))) ≡ good (suc n) t c
-  unfolding candidate
-  good-record e = ap (λ b. (b && (trusted-root (t .seen) c || link (t .seen) c)) && (eqb (c .kind) 0 || g (c .verifying))) (eq-eqb (c .domain) d e) ∙ of-domain e true
-
-pub keys-none : (n : ℕ) (t : Trust) (d : ℕ) (l : List ℕ) → n ≡ 0 → Lists (good-key n t d) l 0
-unfolding among good-key good serves
-keys-none n t d l e =
-    record { few = omega arith; at = λ v. sym (ap (λ m. good-key m t d v) e ∙ any-not (serves (good 0 t) d v) no-certificate (t .certificates) (λ k h. none (eqb (slot t k .domain) d) (eqb (slot t k .key) v))) }
-  where
-    none : (a b : Bool) → T (not (a && b && false))
-    none true true = tt
-    none true false = tt
-    none false b = tt
-
-pub round-keys : (n d : ℕ) (t : Trust) (slots before after : List ℕ) (size count m : ℕ) → m ≤ size → Candidates t d slots size → Lists (good-key n t d) before count
-    → ((v : ℕ) → found t slots before size count v after m ≡ among (reached t slots before size count v) slots size) → Lists (good-key (suc n) t d) after m
-unfolding good-key
-round-keys n d t slots before after size count m le k b h =
-    record {
-      few = omega (arith, k .places .few);
-      at = λ v. h v ∙ k .at (λ c. eqb (c .key) v && (eqb (c .kind) 0 || among (λ x. eqb x (c .verifying)) before count)) ∙ any-same (λ c. candidate t d c && (eqb (c .key) v && (eqb (c .kind) 0 || among (λ x. eqb x (c .verifying)) before count))) (serves (good (suc n) t) d v) (t .certificates) (λ c. good-one n t d (λ v. among (λ x. eqb x v) before count) (b .at) c v);
-    }
-
--- where nothing is good within m + 1 links there is no root, and nothing is good within more
-keys-end : (m n : ℕ) → suc m ≡ n → (t : Trust) (d : ℕ) (before after : List ℕ) (count : ℕ) → count ≡ 0 → Lists (good-key n t d) before count → Lists (good-key (suc n) t d) after 0
-unfolding good-key serves good
-keys-end m n e t d before after count z l =
-    record { few = omega arith; at = λ v. among-none (λ x. eqb x v) after 0 refl ∙ same false (good-key (suc n) t d v) (λ h. absurd h) (none v) }
-  where
-    nothing : (v : ℕ) → T (good-key n t d v) → ⊥
-    nothing v h = subst T (sym (l .at v) ∙ among-none (λ x. eqb x v) before count z) h
-
-    root : (c : Certificate) → T (trusted-root (t .seen) c) → T (good n t c)
-    root c h = subst (λ k. T (good k t c)) e (or-i (trusted-root (t .seen) c) (link (t .seen) c && any (serves (good m t) (c .domain) (c .verifying)) (t .certificates)) h)
-
-    none : (v : ℕ) → T (good-key (suc n) t d v) → ⊥
-    none v h =
-        let s = any-out (serves (good (suc n) t) d v) (t .certificates) h in
-        let c = s .it in
-        let w : T (serves (good (suc n) t) d v c) = s .passes in
-        let o : T (eqb (c .domain) d) = search tests in
-        let k : T (eqb (c .key) v) = search tests in
-        let g : T (good (suc n) t c) = search tests in
-        go c (s .mem) o k (or-cases (trusted-root (t .seen) c) (link (t .seen) c && any (serves (good n t) (c .domain) (c .verifying)) (t .certificates)) g)
+  module _ (n w : ℕ) (e : w ≡ within-domain t d (new-after n t)) where
+    -- what verifies a link within one link more did so before, or is new
+    served : (c : Certificate) → c .domain ≡ d
+        → any (serves (good (suc n) t) (c .domain) (c .verifying)) (t .certificates)
+        ≡ (any (serves (good n t) (c .domain) (c .verifying)) (t .certificates) || verified-by t w c)
+    unfolding serves verified-by within-domain
+    served c q =
+        any-same (serves (good (suc n) t) (c .domain) (c .verifying)) (λ x. old x || new x)
+        (λ x. split (eqb (x .domain) (c .domain)) (eqb (x .key) (c .verifying)) x) (t .certificates)
+        ∙ any-or old new (t .certificates)
+        ∙ ap (λ b. any old (t .certificates) || b) (sym told)
       where
-        go : (c : Certificate) → List·Memᴰ c (t .certificates) → T (eqb (c .domain) d) → T (eqb (c .key) v) → T (trusted-root (t .seen) c) ⊎ T (link (t .seen) c && any (serves (good n t) (c .domain) (c .verifying)) (t .certificates)) → ⊥
-        go c m o k (inl r) = let g : T (good n t c) = root c r in nothing v (any-in (serves (good n t) d v) m (search tests))
-        go c m o k (inr r) = let a : T (any (serves (good n t) (c .domain) (c .verifying)) (t .certificates)) = search tests in nothing (c .verifying) (subst (λ x. T (any (serves (good n t) x (c .verifying)) (t .certificates))) (is (c .domain) d o) a)
+        old : Certificate → Bool
+        old = serves (good n t) (c .domain) (c .verifying)
 
-pub keys-by : (m n : ℕ) → m ≡ n → (t : Trust) (d : ℕ) (l : List ℕ) (k : ℕ) → Lists (good-key m t d) l k → Lists (good-key n t d) l k
-keys-by m n e t d l k h = subst (λ x. Lists (good-key x t d) l k) e h
+        new : Certificate → Bool
+        new x = (new-after n t x && eqb (x .domain) (c .domain)) && eqb (x .key) (c .verifying)
 
--- as the search tests it
-pub keys-ended : (m n : ℕ) → m ≡ n - 1 → (t : Trust) (d : ℕ) (before after : List ℕ) (count : ℕ) → (eqb count 0 && ltb 1 n) ≡ true → Lists (good-key m t d) before count → Lists (good-key n t d) after 0
-keys-ended m n e t d before after count h l =
-    let w : T (eqb count 0 && ltb 1 n) = subst T (sym h) tt in
-    let z = is count 0 (and-l (eqb count 0) (ltb 1 n) w) in
-    let o = ltb→lt 1 n (and-r (eqb count 0) (ltb 1 n) w) in
-    let q : suc (n - 2) ≡ m = omega (arith, o, e) in
-    let r : suc m ≡ n = omega (arith, o, e) in
-    keys-by (suc m) n r t d after 0 (keys-end (n - 2) m q t d before after count z l)
+        split : (a b : Bool) (x : Certificate) → (a && b && good (suc n) t x) ≡ ((a && b && good n t x) || ((new-after n t x && a) && b))
+        split a b x = ap (λ g. a && b && g) (grows n x) ∙ go a b (good n t x) (new-after n t x)
+          where
+            go : (a b g h : Bool) → (a && b && (g || h)) ≡ ((a && b && g) || ((h && a) && b))
+            go true true true h = refl
+            go true true false true = refl
+            go true true false false = refl
+            go true false g true = refl
+            go true false g false = refl
+            go false b g true = refl
+            go false b g false = refl
 
--- ---- one slot
+        told : any-of w (λ x. eqb (x .key) (c .verifying)) (t .certificates) ≡ any new (t .certificates)
+        told =
+            ap (λ k. any-of k (λ x. eqb (x .key) (c .verifying)) (t .certificates)) (e ∙ ap (λ k. within-domain t k (new-after n t)) (sym q))
+            ∙ word-any (λ x. new-after n t x && eqb (x .domain) (c .domain)) (λ x. eqb (x .key) (c .verifying)) (t .certificates)
 
-pub never-good : (n : ℕ) (t : Trust) (c : Certificate) → n ≡ 0 → false ≡ good n t c
-unfolding good
-never-good n t c e = ap (λ m. good m t c) (sym e)
+    -- r is whether a record is a trusted root, l whether it is a link, s and v whether it was verified before, and is now
+    abbrev before : Bool → Bool → Bool → Bool
+    before r l s = r || (l && s)
 
-pub is-good-by : (m n : ℕ) → suc m ≡ n → (t : Trust) (c x : Certificate) → c ≡ x → (keys : List ℕ) (count : ℕ) → Lists (good-key m t (c .domain)) keys count → (a b : Bool) → a ≡ candidate t (c .domain) c
-    → b ≡ (eqb (c .kind) 0 || among (λ v. eqb v (c .verifying)) keys count) → (a && b) ≡ good n t x
-is-good-by m n e t c x q keys count l a b f g =
-    ap₂ (λ a b. a && b) f g ∙ good-record m t (c .domain) (λ v. among (λ x. eqb x v) keys count) (l .at) c refl ∙ ap (λ k. good k t c) e ∙ ap (good n t) q
+    good-then : (r l s v : Bool) → before r l (s || v) ≡ (before r l s || ((l && not (before r l s)) && v))
+    good-then true l s v = refl
+    good-then false true true v = refl
+    good-then false true false true = refl
+    good-then false true false false = refl
+    good-then false false s v = refl
+
+    new-then : (r l s v : Bool) → (before r l (s || v) && not (before r l s)) ≡ ((l && not (before r l s)) && v)
+    new-then true true s v = refl
+    new-then true false s v = refl
+    new-then false true true v = refl
+    new-then false true false true = refl
+    new-then false true false false = refl
+    new-then false false s v = refl
+
+    left-then : (r l s v : Bool) → (l && not (before r l (s || v))) ≡ ((l && not (before r l s)) && not v)
+    left-then true true s v = refl
+    left-then true false s v = refl
+    left-then false true true v = refl
+    left-then false true false true = refl
+    left-then false true false false = refl
+    left-then false false s v = refl
+
+    module _ (c : Certificate) where
+      -- the same of the record's own domain, and nothing of another
+      of-domain : (f g : Bool) → (c .domain ≡ d → f ≡ g) → (f && eqb (c .domain) d) ≡ (g && eqb (c .domain) d)
+      of-domain f g h = go (eqb (c .domain) d) (λ x. is (c .domain) d x)
+        where
+          go : (b : Bool) → (T b → c .domain ≡ d) → (f && b) ≡ (g && b)
+          go true k = ap (λ x. x && true) (h (k tt))
+          go false k = none f ∙ sym (none g)
+            where
+              none : (x : Bool) → (x && false) ≡ false
+              none true = refl
+              none false = refl
+
+      abbrev old : Bool
+      old = any (serves (good n t) (c .domain) (c .verifying)) (t .certificates)
+
+      good-next : c .domain ≡ d → good (suc (suc n)) t c ≡ (good (suc n) t c || (left-after n t c && verified-by t w c))
+      unfolding good left-after
+      good-next q =
+          rw (served c q) (good-then (trusted-root (t .seen) c) (link (t .seen) c) old (verified-by t w c))
+
+      new-next : c .domain ≡ d → new-after (suc n) t c ≡ (left-after n t c && verified-by t w c)
+      unfolding good left-after new-after
+      new-next q =
+          rw (served c q) (new-then (trusted-root (t .seen) c) (link (t .seen) c) old (verified-by t w c))
+
+      left-next : c .domain ≡ d → left-after (suc n) t c ≡ (left-after n t c && not (verified-by t w c))
+      unfolding good left-after
+      left-next q =
+          rw (served c q) (left-then (trusted-root (t .seen) c) (link (t .seen) c) old (verified-by t w c))
+
+      turn : (a b v : Bool) → ((a && b) && v) ≡ ((a && v) && b)
+      turn true true true = refl
+      turn true true false = refl
+      turn true false true = refl
+      turn true false false = refl
+      turn false b v = refl
+
+      both : (a b o : Bool) → ((a && o) || (b && o)) ≡ ((a || b) && o)
+      both true b true = refl
+      both true true false = refl
+      both true false false = refl
+      both false b o = refl
+
+    abbrev left : Certificate → Bool
+    left c = left-after n t c && eqb (c .domain) d
+
+    module _ {g l : ℕ} (r : Round-of n t d g w l) {found : ℕ} (k : found ≡ keep l (verified-by t w) (t .certificates)) where
+      found-is : found ≡ word (λ c. left c && verified-by t w c) (t .certificates)
+      unfolding within-domain
+      found-is = k ∙ ap (λ x. keep x (verified-by t w) (t .certificates)) (r .left) ∙ keep-word left (verified-by t w) (t .certificates)
+
+      new-found : found ≡ within-domain t d (new-after (suc n) t)
+      unfolding within-domain
+      new-found =
+          found-is
+          ∙ word-same (λ c. left c && verified-by t w c) (λ c. new-after (suc n) t c && eqb (c .domain) d)
+          (λ c. turn c (left-after n t c) (eqb (c .domain) d) (verified-by t w c)
+          ∙ of-domain c (left-after n t c && verified-by t w c) (new-after (suc n) t c) (λ q. sym (new-next c q)))
+          (t .certificates)
+
+      good-found : bitOr g found ≡ within-domain t d (good (suc (suc n)) t)
+      unfolding within-domain
+      good-found =
+          ap₂ bitOr (r .good) found-is
+          ∙ word-or (λ c. good (suc n) t c && eqb (c .domain) d) (λ c. left c && verified-by t w c) (t .certificates)
+          ∙ word-same (λ c. (good (suc n) t c && eqb (c .domain) d) || (left c && verified-by t w c)) (λ c. good (suc (suc n)) t c && eqb (c .domain) d)
+          (λ c.
+          ap (λ x. (good (suc n) t c && eqb (c .domain) d) || x) (turn c (left-after n t c) (eqb (c .domain) d) (verified-by t w c))
+          ∙ both c (good (suc n) t c) (left-after n t c && verified-by t w c) (eqb (c .domain) d)
+          ∙ of-domain c (good (suc n) t c || (left-after n t c && verified-by t w c)) (good (suc (suc n)) t c) (λ q. sym (good-next c q)))
+          (t .certificates)
+
+      left-found : bitXor l found ≡ within-domain t d (left-after (suc n) t)
+      unfolding within-domain
+      left-found =
+          ap₂ bitXor (r .left) found-is
+          ∙ word-less left (verified-by t w) (t .certificates)
+          ∙ word-same (λ c. left c && not (verified-by t w c)) (λ c. left-after (suc n) t c && eqb (c .domain) d)
+          (λ c. turn c (left-after n t c) (eqb (c .domain) d) (not (verified-by t w c))
+          ∙ of-domain c (left-after n t c && not (verified-by t w c)) (left-after (suc n) t c) (λ q. sym (left-next c q)))
+          (t .certificates)
+
+  -- as the search goes
+  pub round-next : (n : ℕ) {g f l found : ℕ} → Round-of n t d g f l → found ≡ keep l (verified-by t f) (t .certificates)
+      → Round-of (suc n) t d (bitOr g found) found (bitXor l found)
+  round-next n {g} {f} {l} {found} r k =
+      record { good = good-found n f (r .fresh) r k; fresh = new-found n f (r .fresh) r k; left = left-found n f (r .fresh) r k }
+
+  -- what is known after k rounds, and n more
+  pub rounds-over : (k n : ℕ) {g f l : ℕ} → Round-of k t d g f l → n ≡ 0 → g ≡ within-domain t d (good (suc (k + n)) t)
+  rounds-over k n r z = let e : suc k ≡ suc (k + n) = omega arith in r .good ∙ ap (λ m. within-domain t d (good m t)) e
+
+  pub rounds-all : (n : ℕ) → n ≢ 0 → (w : ℕ) → w ≡ within-domain t d (good (suc (0 + (n - 1))) t) → w ≡ within-domain t d (good n t)
+  rounds-all n z w q = let e : suc (0 + (n - 1)) ≡ n = omega arith in q ∙ ap (λ m. within-domain t d (good m t)) e
+
+  pub rounds-go-on : (k n : ℕ) → n ≢ 0 → (w : ℕ) → w ≡ within-domain t d (good (suc (suc k + (n - 1))) t) → w ≡ within-domain t d (good (suc (k + n)) t)
+  rounds-go-on k n z w q = let e : suc (suc k + (n - 1)) ≡ suc (k + n) = omega arith in q ∙ ap (λ m. within-domain t d (good m t)) e
+
+-- ---- the links that are verified
+
+module _ (t : Trust) (w left : ℕ) where
+  pub verified-nothing : w ≡ 0 → 0 ≡ keep left (verified-by t w) (t .certificates)
+  unfolding verified-by
+  verified-nothing z =
+      sym (keep-none (verified-by t w) none left (t .certificates))
+    where
+      none : (c : Certificate) → any-of w (λ e. eqb (e .key) (c .verifying)) (t .certificates) ≡ false
+      none c =
+          ap (λ k. any-of k (λ e. eqb (e .key) (c .verifying)) (t .certificates)) z ∙ any-nothing (λ e. eqb (e .key) (c .verifying)) (t .certificates)
+
+  -- what is found is no more than a word
+  pub found-lt : {found : ℕ} → found ≡ keep left (verified-by t w) (t .certificates) → found < 2 ^ length (t .certificates)
+  found-lt e = subst (λ k. k < 2 ^ length (t .certificates)) (sym e) (keep-lt (verified-by t w) left (t .certificates))
+
+  pub found-fits : {v : ℕ} → Going t v → (a k : ℕ) → a + k ≡ keep left (verified-by t w) (t .certificates) → a < 2 ^ 64
+  found-fits g a k e =
+      let f = found-lt e in
+      let m = pow-mono {i = length (t .certificates)} {j = 64} (g .few) in
+      omega arith
 
 -- ---- one executable
 
@@ -268,6 +287,21 @@ module _ (t : Trust) (d : ℕ) (x : Executable) where
   unfolding chained-in chains-to within
   chained-unsigned h z = rw (eq-eqb (x .domain) d h, eq-eqb (x .signing) 0 z)
 
-  pub chained-by : x .domain ≡ d → x .signing ≢ 0 → (b : Bool) (keys : List ℕ) (count : ℕ) → b ≡ among (λ v. eqb v (x .signing)) keys count → Lists (good-key 4 t d) keys count → b ≡ chained-in d t x
-  unfolding chained-in chains-to within good-key
-  chained-by h z b keys count e l = rw (eq-eqb (x .domain) d h, ne-eqb (x .signing) 0 z) (e ∙ l .at (x .signing))
+  pub chained-by : x .domain ≡ d → x .signing ≢ 0 → (b : Bool) (w : ℕ) → w ≡ good-slots t d
+      → b ≡ any-of w (λ c. eqb (c .key) (x .signing)) (t .certificates) → b ≡ chained-in d t x
+  unfolding chained-in chains-to within serves within-domain
+  chained-by h z b w e q =
+      rw (eq-eqb (x .domain) d h, ne-eqb (x .signing) 0 z)
+      (q
+      ∙ ap (λ k. any-of k (λ c. eqb (c .key) (x .signing)) (t .certificates)) e
+      ∙ word-any (λ c. good 4 t c && eqb (c .domain) d) (λ c. eqb (c .key) (x .signing)) (t .certificates)
+      ∙ any-same (λ c. (good 4 t c && eqb (c .domain) d) && eqb (c .key) (x .signing)) (serves (good 4 t) d (x .signing))
+      (λ c. go (good 4 t c) (eqb (c .domain) d) (eqb (c .key) (x .signing))) (t .certificates))
+    where
+      go : (a b c : Bool) → ((a && b) && c) ≡ (b && c && a)
+      go true true true = refl
+      go true true false = refl
+      go true false c = refl
+      go false true true = refl
+      go false true false = refl
+      go false false c = refl

@@ -1,72 +1,81 @@
--- What the search keeps: numbers in the first places of a list. Definitions only.
-use Prim.Native.Nat.{ℕ, zero, suc, _≤_, _<_}
-use mathlib.Core.Bool.{Bool, false, not, _&&_, _||_}
-use mathlib.Core.List.{List, List·Memᴰ}
+-- What the searches keep: slots as the bits of a word. Definitions only.
+use Prim.Native.Nat.{ℕ, suc, _≤_}
+use mathlib.Core.Bool.{Bool, cond, not, _&&_, _||_}
+use mathlib.Core.List.{List·Memᴰ}
 use mathlib.Core.Logic.{_≢_}
 use mathlib.Core.Path.{_≡_}
+use lib.Bits.{bitOr}
 use lib.Dec.{eqb}
-use lib.ListN.{length, getD}
+use lib.ListN.{getD}
 use Rattle.records.specs.Phone.{Trust, no-certificate}
 use Rattle.records.specs.declared.Certificate.{Certificate}
 use Rattle.records.specs.declared.Executable.{Executable}
+use Rattle.bits.specs.Words.{word, any-of}
 use Rattle.rules.specs.Words.{any, find}
-use Rattle.rules.specs.Chains.{trusted-root, link, serves, good, chains-to}
+use Rattle.rules.specs.Chains.{trusted-root, link, good, chains-to}
+use Rattle.chain.specs.declared.Sorted.{Sorted}
+use Rattle.chain.specs.declared.Level.{Level}
 
 abbrev pub slot : Trust → ℕ → Certificate
 slot t i = getD (t .certificates) i no-certificate
-
--- one of the first k numbers of a list passes the test
-unfoldable pub among : (ℕ → Bool) → List ℕ → ℕ → Bool
-among f l zero = false
-among f l (suc k) = f (getD l k 0) || among f l k
-
--- a list whose first k numbers are the keys that pass p
-pub record Lists (p : ℕ → Bool) (l : List ℕ) (k : ℕ) : Type 0 where
-  pub few : k ≤ 64
-  pub at : (v : ℕ) → among (λ x. eqb x v) l k ≡ p v
-
--- ---- the good keys of a domain
-
--- v is the key of a record of domain d that is good within n
-unfoldable pub good-key : ℕ → Trust → ℕ → ℕ → Bool
-good-key n t d v = any (serves (good n t) d v) (t .certificates)
 
 -- x chains to d, if that is its domain
 unfoldable pub chained-in : ℕ → Trust → Executable → Bool
 chained-in d t x = not (eqb (x .domain) d) || chains-to t (x .signing) d
 
--- a record that can be in a chain of domain d: a trusted root, or a link that lacks nothing but a good verifier
-unfoldable pub candidate : Trust → ℕ → Certificate → Bool
-candidate t d c = eqb (c .domain) d && (trusted-root (t .seen) c || link (t .seen) c)
+-- ---- the good slots of a domain
 
--- a list whose first k numbers are slots
-pub record Places (t : Trust) (l : List ℕ) (k : ℕ) : Type 0 where
-  pub few : k ≤ 64
-  pub each : (x : ℕ) → x < k → getD l x 0 < length (t .certificates)
+-- the slots of domain d that pass a test
+unfoldable pub within-domain : Trust → ℕ → (Certificate → Bool) → ℕ
+within-domain t d f = word (λ c. f c && eqb (c .domain) d) (t .certificates)
 
--- a list whose first k numbers are the slots that can be in a chain of domain d
-pub record Candidates (t : Trust) (d : ℕ) (l : List ℕ) (k : ℕ) : Type 0 where
-  pub places : Places t l k
-  pub at : (f : Certificate → Bool) → among (λ j. f (slot t j)) l k ≡ any (λ c. candidate t d c && f c) (t .certificates)
+-- the trusted roots and the links of domain d
+pub record Sorted-as (t : Trust) (d : ℕ) (r : Sorted) : Type 0 where
+  pub roots : r .roots ≡ within-domain t d (trusted-root (t .seen))
+  pub links : r .links ≡ within-domain t d (link (t .seen))
+
+-- a round is a link, and the trusted roots are there before the first: what the nth round made good, and the links that are not good after it
+unfoldable pub new-after : ℕ → Trust → Certificate → Bool
+new-after n t c = good (suc n) t c && not (good n t c)
+
+unfoldable pub left-after : ℕ → Trust → Certificate → Bool
+left-after n t c = link (t .seen) c && not (good (suc n) t c)
+
+-- a slot of the word has the verifying key of c as key
+unfoldable pub verified-by : Trust → ℕ → Certificate → Bool
+verified-by t w c = any-of w (λ e. eqb (e .key) (c .verifying)) (t .certificates)
+
+-- what is known of domain d after n rounds: the good slots, those of them that are new, and the links that are left
+pub record Round-of (n : ℕ) (t : Trust) (d : ℕ) (g f l : ℕ) : Type 0 where
+  pub good : g ≡ within-domain t d (good (suc n) t)
+  pub fresh : f ≡ within-domain t d (new-after n t)
+  pub left : l ≡ within-domain t d (left-after n t)
+
+-- the slots of domain d that are good
+abbrev pub good-slots : Trust → ℕ → ℕ
+good-slots t d = within-domain t d (good 4 t)
 
 -- ---- the search back from one key: p tells the keys that a level looks for
 
--- a trusted root with such a key
+-- a trusted root with such a key, and a link with such a key
 unfoldable pub rooted : Trust → ℕ → (ℕ → Bool) → Certificate → Bool
 rooted t d p c = eqb (c .domain) d && p (c .key) && trusted-root (t .seen) c
 
--- a link with such a key, whose verifying key is v
-unfoldable pub led : Trust → ℕ → (ℕ → Bool) → ℕ → Certificate → Bool
-led t d p v c = eqb (c .domain) d && p (c .key) && link (t .seen) c && eqb (c .verifying) v
+unfoldable pub linked : Trust → ℕ → (ℕ → Bool) → Certificate → Bool
+linked t d p c = eqb (c .domain) d && p (c .key) && link (t .seen) c
 
--- the keys that the next level looks for
-unfoldable pub above : Trust → ℕ → (ℕ → Bool) → ℕ → Bool
-above t d p v = any (led t d p v) (t .certificates)
+-- a record with such a key is good within n
+unfoldable pub reach : ℕ → Trust → ℕ → (ℕ → Bool) → Bool
+reach n t d p = any (λ c. eqb (c .domain) d && p (c .key) && good n t c) (t .certificates)
 
--- what one level tells: whether it has a trusted root, and else the keys to look for next
-pub record Advanced (t : Trust) (d : ℕ) (p : ℕ → Bool) (found : Bool) (next : List ℕ) (k : ℕ) : Type 0 where
-  pub tells : found ≡ any (rooted t d p) (t .certificates)
-  pub level : found ≡ false → Lists (above t d p) next k
+-- the verifying keys of the slots of a word
+abbrev pub verifiers : Trust → ℕ → ℕ → Bool
+verifiers t w v = any-of w (λ c. eqb (c .verifying) v) (t .certificates)
+
+-- what a level tells: whether it has a trusted root, and where it has none its links, beside those that were there before
+pub record Level-of (t : Trust) (d : ℕ) (p : ℕ → Bool) (before : ℕ) (r : Level) : Type 0 where
+  pub found : r .found ≡ any (rooted t d p) (t .certificates)
+  pub links : r .links ≡ cond (r .found) 0 (bitOr before (word (linked t d p) (t .certificates)))
 
 -- ---- the domain of a key
 

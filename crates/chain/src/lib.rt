@@ -1,25 +1,35 @@
-// The search for chains, twice: the keys of all good records of one domain, for all its executables at once, and the link count of one key.
-// For a domain the records that can be in a chain are found first; then each of at most four rounds looks at each of them once, and at
-// the keys of the round before. For one key there are at most four levels back from it. A level looks at each slot once, and at the
-// keys of the level. Either way at most 4 * 64 * 64 pairs, whatever the image: no path is followed, so nothing grows with their number.
+// The search for chains, twice: the good slots of a domain, for all its executables at once, and the link count of one key.
+// Either way a round is one word, with a bit for each slot. For a domain, one sweep finds its roots and links; then each of three
+// rounds looks at the links that are not good yet, and at the slots that the round before added. For one key there are at most four levels
+// back from it, with a sweep of all slots for each key of a level, which ends at a trusted root. At most 64 + 3 * 64 * 128 pairs of slots
+// are looked at, whatever the image: no path is followed, so nothing grows with their number.
+use bits::slots;
 use records::Certificate;
 use records::Executable;
 use records::image;
 use rules::Chained;
 ghost use mathlib.Core.Path.{_≡_};
-ghost use mathlib.Core.Bool.{Bool, _&&_, _||_};
-ghost use Prim.Native.Nat.{ℕ, suc, _≤_, _<_};
+ghost use mathlib.Core.Bool.{cond, _&&_};
+ghost use Prim.Native.Nat.{ℕ, suc, _+_, _<_, _^_};
 ghost use lib.Dec.{eqb};
 ghost use lib.ListN.{length};
 ghost use Rattle.records.specs.Phone.{Trust, decode};
 ghost use Rattle.records.specs.Frame.{Framed};
+ghost use Rattle.bits.specs.Words.{any-of, keep};
+ghost use Rattle.rules.specs.Words.{least};
 ghost use Rattle.rules.specs.Chains.{present, in-date, valid-root, trusted-root, link, good, links, chain-of};
-ghost use Rattle.chain.specs.Keys.{slot, among, Lists, good-key, chained-in, candidate, Places, Candidates, Advanced, Keyed, holder};
+ghost use Rattle.chain.specs.Keys.{slot, chained-in, Sorted-as, within-domain, verified-by, Round-of, good-slots, reach, verifiers, Level-of, Keyed, holder};
 
-// What one level of the search back from a key found: a trusted root, or else the number of keys to look for next.
+// The slots of a domain that count: its trusted roots and its links.
+struct Sorted {
+    roots: u64,
+    links: u64,
+}
+
+// What one level of the search back from a key found: a trusted root, or else its links.
 struct Level {
     found: bool,
-    count: usize,
+    links: u64,
 }
 
 pub fn is_present(s: &[u8], c: Certificate) -> bool
@@ -56,136 +66,119 @@ fn is_link(s: &[u8], c: Certificate) -> bool
     (c.kind == 1) & in_date(image::clock(s), c) & is_present(s, c)
 }
 
-// Whether one of the first keys of a list is this one.
-fn is_among(keys: &[u32], count: usize, key: u32) -> bool
-    requires { ⌜ count ≤ length (now keys) ⌝ }
-    ensures { λ r. ⌜ r ≡ among (λ x. eqb x key) (now (keys .entry)) count ⌝ }
+// Whether one of the slots has this key.
+fn holds_key(s: &[u8], among: u64, key: u32) -> bool
+    requires { ⌜ Framed (now s) ⌝ }
+    requires { ⌜ among < 2 ^ length (decode (now s) .trust .certificates) ⌝ }
+    ensures { λ r. ⌜ r ≡ any-of among (λ c. eqb (c .key) key) (decode (now (s .entry)) .trust .certificates) ⌝ }
 {
-    let mut k = count;
-    while 0 < k {
-        k -= 1;
-        if keys[k] == key {
+    let mut left = among;
+    while left != 0 {
+        let i = slots::lowest(left);
+        if image::certificate(s, i).key == key {
             return true;
         }
+        left = slots::rest(left);
     }
     false
 }
 
-// ---- the good keys of one domain
+// ---- the good slots of a domain
 
-// Whether c can be in a chain of this domain: a trusted root, or a link that lacks nothing but a good verifier.
-fn is_candidate(s: &[u8], domain: u8, c: Certificate) -> bool
+// One sweep, which passes over the records of the other domains.
+fn sort(s: &[u8], domain: u8) -> Sorted
     requires { ⌜ Framed (now s) ⌝ }
-    ensures { λ r. ⌜ r ≡ candidate (decode (now (s .entry)) .trust) domain c ⌝ }
-{
-    if c.domain != domain {
-        return false;
-    }
-    if !is_present(s, c) {
-        return false;
-    }
-    if c.kind == 0 {
-        return trusted_root(s, c);
-    }
-    is_link(s, c)
-}
-
-// Lists the slots that can be in a chain of this domain, and tells their number.
-fn candidates(s: &[u8], domain: u8, slots: &mut [u8]) -> usize
-    requires { ⌜ Framed (now s) ⌝ }
-    requires { ⌜ length (now slots) ≡ 64 ⌝ }
-    ensures { λ r. ⌜ Candidates (decode (now (s .entry)) .trust) domain (now (slots .exit)) r ⌝ }
+    ensures { λ r. ⌜ Sorted-as (decode (now (s .entry)) .trust) domain r ⌝ }
 {
     let all = image::certificate_slots(s);
-    let mut count: usize = 0;
+    let mut roots: u64 = 0;
+    let mut links: u64 = 0;
     let mut i: usize = 0;
     while i < all {
-        let here = i;
+        let slot = i;
         i += 1;
-        if !is_candidate(s, domain, image::certificate(s, here)) {
+        let c = image::certificate(s, slot);
+        if c.domain != domain {
             continue;
         }
-        slots[count] = here as u8;
-        count += 1;
+        if trusted_root(s, c) {
+            roots = slots::with_slot(roots, slot);
+            continue;
+        }
+        if !is_link(s, c) {
+            continue;
+        }
+        links = slots::with_slot(links, slot);
     }
-    count
+    Sorted { roots, links }
 }
 
-// Whether a candidate is good within one link more than those whose keys are listed.
-fn is_reached(keys: &[u32], count: usize, c: Certificate) -> bool
-    requires { ⌜ count ≤ length (now keys) ⌝ }
-    ensures { λ r. ⌜ r ≡ (eqb (c .kind) 0 || among (λ x. eqb x (c .verifying)) (now (keys .entry)) count) ⌝ }
-{
-    if c.kind == 0 {
-        return true;
-    }
-    is_among(keys, count, c.verifying)
-}
-
-// One round: the keys of the candidates that are good within n links, from the keys of those within n - 1.
-fn round(
-    s: &[u8],
-    slots: &[u8; 64],
-    size: usize,
-    before: &[u32],
-    count: usize,
-    after: &mut [u32],
-) -> usize
+// The links of `left` that a slot of `fresh` verifies.
+fn verified(s: &[u8], left: u64, fresh: u64) -> u64
     requires { ⌜ Framed (now s) ⌝ }
-    requires { ⌜ Places (decode (now s) .trust) (now slots) size ⌝ }
-    requires { ⌜ (count ≤ length (now before)) × (length (now after) ≡ 64) ⌝ }
-    ensures { λ r. ⌜ r ≤ size ⌝ }
-    ensures { λ r. ⌜ ((n d : ℕ) → Candidates (decode (now (s .entry)) .trust) d (now (slots .entry)) size → Lists (good-key n (decode (now (s .entry)) .trust) d) (now (before .entry)) count → Lists (good-key (suc n) (decode (now (s .entry)) .trust) d) (now (after .exit)) r) ⌝ }
+    requires { ⌜ left < 2 ^ length (decode (now s) .trust .certificates) ⌝ }
+    requires { ⌜ fresh < 2 ^ length (decode (now s) .trust .certificates) ⌝ }
+    ensures { λ r. ⌜ r ≡ keep left (verified-by (decode (now (s .entry)) .trust) fresh) (decode (now (s .entry)) .trust .certificates) ⌝ }
 {
-    let mut found: usize = 0;
-    let mut k = size;
-    while 0 < k {
-        k -= 1;
-        let c = image::certificate(s, slots[k] as usize);
-        if !is_reached(before, count, c) {
+    // Where the last round added nothing, this one cannot.
+    if fresh == 0 {
+        return 0;
+    }
+    let mut found: u64 = 0;
+    let mut next = left;
+    while next != 0 {
+        let here = next;
+        let i = slots::lowest(here);
+        next = slots::rest(here);
+        if !holds_key(s, fresh, image::certificate(s, i).verifying) {
             continue;
         }
-        after[found] = c.key;
-        found += 1;
+        // The bit that was taken from what is left.
+        found += here - next;
     }
     found
 }
 
-// "Recursion on the remaining links": the keys of the candidates that are good within n.
-fn good_within(s: &[u8], slots: &[u8; 64], size: usize, n: u8, keys: &mut [u32]) -> usize
+// "Recursion on the remaining links": what is good with n links more. The good slots so far are known, those of them that the last link
+// made so, and the links that are left: what an earlier slot verifies is good already, so that only the fresh ones can add one.
+fn good_beyond(s: &[u8], domain: u8, known: u64, fresh: u64, left: u64, n: u8) -> u64
     requires { ⌜ Framed (now s) ⌝ }
-    requires { ⌜ Places (decode (now s) .trust) (now slots) size ⌝ }
-    requires { ⌜ length (now keys) ≡ 64 ⌝ }
-    ensures { λ r. ⌜ r ≤ size ⌝ }
-    ensures { λ r. ⌜ ((d : ℕ) → Candidates (decode (now (s .entry)) .trust) d (now (slots .entry)) size → Lists (good-key n (decode (now (s .entry)) .trust) d) (now (keys .exit)) r) ⌝ }
+    requires { ⌜ fresh < 2 ^ length (decode (now s) .trust .certificates) ⌝ }
+    requires { ⌜ left < 2 ^ length (decode (now s) .trust .certificates) ⌝ }
+    ensures { λ r. ⌜ ((k : ℕ) → Round-of k (decode (now (s .entry)) .trust) domain known fresh left → r ≡ within-domain (decode (now (s .entry)) .trust) domain (good (suc (k + n)) (decode (now (s .entry)) .trust))) ⌝ }
+{
+    if n == 0 {
+        return known;
+    }
+    let found = verified(s, left, fresh);
+    good_beyond(s, domain, known | found, found, left ^ found, n - 1)
+}
+
+// What is good within n links, a trusted root being the first.
+fn good_within(s: &[u8], domain: u8, n: u8) -> u64
+    requires { ⌜ Framed (now s) ⌝ }
+    ensures { λ r. ⌜ r ≡ within-domain (decode (now (s .entry)) .trust) domain (good n (decode (now (s .entry)) .trust)) ⌝ }
 {
     if n == 0 {
         return 0;
     }
-    let mut before = [0u32; 64];
-    let count = good_within(s, slots, size, n - 1, &mut before);
-    // Where a round found nothing there is no root, and the next ones find nothing either.
-    if (count == 0) & (1 < n) {
-        return 0;
-    }
-    round(s, slots, size, &before, count, keys)
+    let c = sort(s, domain);
+    good_beyond(s, domain, c.roots, c.roots, c.links, n - 1)
 }
 
-// The keys of all good records of a domain: found once, they serve for all its executables.
-pub fn good_keys(s: &[u8], domain: u8, keys: &mut [u32]) -> usize
+// The good slots of a domain: found once, they serve for all its executables.
+pub fn good_slots(s: &[u8], domain: u8) -> u64
     requires { ⌜ Framed (now s) ⌝ }
-    requires { ⌜ length (now keys) ≡ 64 ⌝ }
-    ensures { λ r. ⌜ Lists (good-key 4 (decode (now (s .entry)) .trust) domain) (now (keys .exit)) r ⌝ }
+    ensures { λ r. ⌜ r ≡ good-slots (decode (now (s .entry)) .trust) domain ⌝ }
 {
-    let mut slots = [0u8; 64];
-    let size = candidates(s, domain, &mut slots);
-    good_within(s, &slots, size, 4, keys)
+    good_within(s, domain, 4)
 }
 
-// Whether x chains to a domain, if that is its domain, by the good keys of the domain.
-pub fn is_chained(domain: u8, keys: &[u32], count: usize, x: Executable) -> bool
-    requires { ⌜ count ≤ length (now keys) ⌝ }
-    ensures { λ r. ⌜ ((t : Trust) → Lists (good-key 4 t domain) (now (keys .entry)) count → r ≡ chained-in domain t x) ⌝ }
+// Whether x chains to a domain, if that is its domain, by the good slots of the domain.
+pub fn is_chained(s: &[u8], domain: u8, good: u64, x: Executable) -> bool
+    requires { ⌜ Framed (now s) ⌝ }
+    requires { ⌜ good ≡ good-slots (decode (now s) .trust) domain ⌝ }
+    ensures { λ r. ⌜ r ≡ chained-in domain (decode (now (s .entry)) .trust) x ⌝ }
 {
     if x.domain != domain {
         return true;
@@ -193,7 +186,131 @@ pub fn is_chained(domain: u8, keys: &[u32], count: usize, x: Executable) -> bool
     if x.signing == 0 {
         return false;
     }
-    is_among(keys, count, x.signing)
+    holds_key(s, good, x.signing)
+}
+
+// ---- one key alone, by a search back from it
+
+fn has_key(domain: u8, key: u32, c: Certificate) -> bool
+    ensures { λ r. ⌜ r ≡ (eqb (c .domain) domain && eqb (c .key) key) ⌝ }
+{
+    (c.domain == domain) & (c.key == key)
+}
+
+// Whether a record of the domain with this key is a trusted root. Where none is, the links with it join those of the level: every record
+// is looked at, since a good one may stand anywhere.
+fn sweep(s: &[u8], domain: u8, key: u32, level: u64) -> Level
+    requires { ⌜ Framed (now s) ⌝ }
+    ensures { λ r. ⌜ Level-of (decode (now (s .entry)) .trust) domain (λ v. eqb v key) level r ⌝ }
+{
+    let all = image::certificate_slots(s);
+    let mut links = level;
+    let mut i: usize = 0;
+    while i < all {
+        let here = i;
+        i += 1;
+        let c = image::certificate(s, here);
+        if !has_key(domain, key, c) {
+            continue;
+        }
+        if trusted_root(s, c) {
+            return Level {
+                found: true,
+                links: 0,
+            };
+        }
+        if !is_link(s, c) {
+            continue;
+        }
+        links = slots::with_slot(links, here);
+    }
+    Level {
+        found: false,
+        links,
+    }
+}
+
+// The next level: what the verifying keys of these links lead to. A key that a slot of it has already is not looked for again.
+fn up(s: &[u8], domain: u8, level: u64) -> Level
+    requires { ⌜ Framed (now s) ⌝ }
+    requires { ⌜ level < 2 ^ length (decode (now s) .trust .certificates) ⌝ }
+    ensures { λ r. ⌜ Level-of (decode (now (s .entry)) .trust) domain (verifiers (decode (now (s .entry)) .trust) level) 0 r ⌝ }
+{
+    let mut links: u64 = 0;
+    let mut left = level;
+    while left != 0 {
+        let i = slots::lowest(left);
+        left = slots::rest(left);
+        let key = image::certificate(s, i).verifying;
+        if holds_key(s, links, key) {
+            continue;
+        }
+        let more = sweep(s, domain, key, links);
+        if more.found {
+            return Level {
+                found: true,
+                links: 0,
+            };
+        }
+        links = more.links;
+    }
+    Level {
+        found: false,
+        links,
+    }
+}
+
+// A count of links with one more below them, where there is a chain.
+fn one_more(n: u8) -> u8
+    requires { ⌜ n < 255 ⌝ }
+    ensures { λ r. ⌜ r ≡ cond (eqb n 0) 0 (suc n) ⌝ }
+{
+    if n == 0 {
+        return 0;
+    }
+    n + 1
+}
+
+// "Recursion on the remaining links": how many levels above these links the first trusted root stands, and 0 where none is within n.
+fn climb(s: &[u8], domain: u8, level: u64, n: u8) -> u8
+    requires { ⌜ Framed (now s) ⌝ }
+    requires { ⌜ level < 2 ^ length (decode (now s) .trust .certificates) ⌝ }
+    ensures { λ r. ⌜ r ≡ least n (λ m. reach m (decode (now (s .entry)) .trust) domain (verifiers (decode (now (s .entry)) .trust) level)) ⌝ }
+{
+    if n == 0 {
+        return 0;
+    }
+    let next = up(s, domain, level);
+    if next.found {
+        return 1;
+    }
+    one_more(climb(s, domain, next.links, n - 1))
+}
+
+// How many levels back from a key the first trusted root stands, and 0 where none is within n.
+fn links_within(s: &[u8], domain: u8, key: u32, n: u8) -> u8
+    requires { ⌜ Framed (now s) ⌝ }
+    ensures { λ r. ⌜ r ≡ least n (λ m. reach m (decode (now (s .entry)) .trust) domain (λ v. eqb v key)) ⌝ }
+{
+    if n == 0 {
+        return 0;
+    }
+    let first = sweep(s, domain, key, 0);
+    if first.found {
+        return 1;
+    }
+    one_more(climb(s, domain, first.links, n - 1))
+}
+
+// The link count of a signing key for a domain.
+pub fn links_of(s: &[u8], key: u32, domain: u8) -> u8
+    requires { ⌜ Framed (now s) ⌝ }
+    ensures { λ r. ⌜ r ≡ links (decode (now (s .entry)) .trust) key domain ⌝ }
+{
+    if (key == 0) | (domain == 0) {
+        return 0;
+    }
+    links_within(s, domain, key, 4)
 }
 
 // Whether slot i is good within n links.
@@ -206,100 +323,13 @@ pub fn is_good(s: &[u8], n: u8, i: usize) -> bool
         return false;
     }
     let c = image::certificate(s, i);
-    let mut slots = [0u8; 64];
-    let size = candidates(s, c.domain, &mut slots);
-    let mut keys = [0u32; 64];
-    let count = good_within(s, &slots, size, n - 1, &mut keys);
-    is_candidate(s, c.domain, c) & is_reached(&keys, count, c)
-}
-
-// ---- one key alone, by a search back from it
-
-// Whether c is of the domain and has one of the keys that are looked for.
-fn is_wanted(domain: u8, wanted: &[u32], count: usize, c: Certificate) -> bool
-    requires { ⌜ count ≤ length (now wanted) ⌝ }
-    ensures { λ r. ⌜ r ≡ (eqb (c .domain) domain && among (λ x. eqb x (c .key)) (now (wanted .entry)) count) ⌝ }
-{
-    if c.domain != domain {
+    if trusted_root(s, c) {
+        return true;
+    }
+    if !is_link(s, c) {
         return false;
     }
-    is_among(wanted, count, c.key)
-}
-
-// Whether a record with one of the keys looked for is a trusted root. Where none is, `next` has the verifying keys of the links
-// among them, each once: every record is looked at, since a good one may stand anywhere.
-fn search_level(s: &[u8], domain: u8, wanted: &[u32], count: usize, next: &mut [u32]) -> Level
-    requires { ⌜ Framed (now s) ⌝ }
-    requires { ⌜ (count ≤ length (now wanted)) × (length (now next) ≡ 64) ⌝ }
-    ensures { λ r. ⌜ r .count ≤ 64 ⌝ }
-    ensures { λ r. ⌜ ((p : ℕ → Bool) → Lists p (now (wanted .entry)) count → Advanced (decode (now (s .entry)) .trust) domain p (r .found) (now (next .exit)) (r .count)) ⌝ }
-{
-    if count == 0 {
-        return Level {
-            found: false,
-            count: 0,
-        };
-    }
-    let slots = image::certificate_slots(s);
-    let mut size: usize = 0;
-    let mut i: usize = 0;
-    while i < slots {
-        let c = image::certificate(s, i);
-        i += 1;
-        if !is_wanted(domain, wanted, count, c) {
-            continue;
-        }
-        if trusted_root(s, c) {
-            return Level {
-                found: true,
-                count: 0,
-            };
-        }
-        if !is_link(s, c) {
-            continue;
-        }
-        if is_among(next, size, c.verifying) {
-            continue;
-        }
-        next[size] = c.verifying;
-        size += 1;
-    }
-    Level {
-        found: false,
-        count: size,
-    }
-}
-
-// The link count of a signing key for a domain: how many levels back the first trusted root stands.
-pub fn links_of(s: &[u8], key: u32, domain: u8) -> u8
-    requires { ⌜ Framed (now s) ⌝ }
-    ensures { λ r. ⌜ r ≡ links (decode (now (s .entry)) .trust) key domain ⌝ }
-{
-    if (key == 0) | (domain == 0) {
-        return 0;
-    }
-    let first = [key; 1];
-    let mut second = [0u32; 64];
-    let one = search_level(s, domain, &first, 1, &mut second);
-    if one.found {
-        return 1;
-    }
-    let mut third = [0u32; 64];
-    let two = search_level(s, domain, &second, one.count, &mut third);
-    if two.found {
-        return 2;
-    }
-    let mut fourth = [0u32; 64];
-    let three = search_level(s, domain, &third, two.count, &mut fourth);
-    if three.found {
-        return 3;
-    }
-    let mut fifth = [0u32; 64];
-    let four = search_level(s, domain, &fourth, three.count, &mut fifth);
-    if four.found {
-        return 4;
-    }
-    0
+    links_within(s, c.domain, c.verifying, n - 1) != 0
 }
 
 // The domain of the first record with a key, good or not, and 0 where none has it.

@@ -6,13 +6,15 @@ use mathlib.Core.Logic.{_≢_}
 use mathlib.Core.Path.{_≡_, refl, sym, ap, ap₂, _∙_}
 use native.Mathlib.Omega.{arith}
 use borrow.Author.Tests.{eq-eqb, ne-eqb}
-use lib.Dec.{eqb}
+use lib.Dec.{T, eqb}
 use lib.ListN.{length, length-map}
 use Rattle.records.specs.Phone.{Trust, Phone, decode, encode, with-executables, in-domain, executable-at, put-executable}
 use Rattle.records.specs.Frame.{Framed}
 use Rattle.records.specs.declared.Executable.{Executable}
 use Rattle.rules.specs.Chains.{chains-to}
 use Rattle.rules.specs.Effects.{settled, settle}
+use Rattle.rules.proofs.Accepts.{T-true}
+use Rattle.rules.proofs.Tests.{is, isnt, by-test}
 use Rattle.chain.specs.Keys.{chained-in}
 use Rattle.effects.proofs.Parts.{executables, says, framed-as}
 use Rattle.effects.proofs.Sweeps.{Sweeping, sweep-goes-on, sweep-skips-to}
@@ -46,6 +48,25 @@ module _ (t : Trust) where
   unfolding settled
   none x e = ap (λ b. cond (b || chains-to t (x .signing) (x .domain)) x (in-domain 0 x)) (sym (eq-eqb (x .domain) 0 e))
 
+  -- one whose chain stands keeps its domain, and one without a domain has none to lose
+  kept : (x : Executable) → x .domain ≢ 0 → T (chains-to t (x .signing) (x .domain)) → settled t x ≡ x
+  unfolding settled
+  kept x z c = rw (ne-eqb (x .domain) 0 z, T-true (chains-to t (x .signing) (x .domain)) c)
+
+  unlost : (x : Executable) → x .domain ≡ 0 → (b : Bool) → cond b x (in-domain 0 x) ≡ x
+  unlost x e true = refl
+  unlost x e false = ap (λ k. in-domain k x) (sym e)
+
+  -- where those of other domains still chain, the turn of domain d is all of settling
+  own-turn : (d : ℕ) (x : Executable) → (x .domain ≢ 0 → x .domain ≢ d → T (chains-to t (x .signing) (x .domain))) → settled-in d t x ≡ settled t x
+  unfolding settled-in
+  own-turn d x h =
+      by-test (eqb (x .domain) 0) (λ y. let e = is (x .domain) 0 y in unlost x e (chained-in d t x) ∙ none x e)
+      (λ n.
+      let z = isnt (x .domain) 0 n in
+      by-test (eqb (x .domain) d) (λ y. let e = is (x .domain) d y in own d x e (λ q. z (e ∙ q)))
+      (λ m. let o = isnt (x .domain) d m in other d x o ∙ sym (kept x z (h z o))))
+
   turns : (x : Executable) → x .domain ≤ 3 → settled-in 3 t (settled-in 2 t (settled-in 1 t x)) ≡ settled t x
   turns x h = go (x .domain) refl h
     where
@@ -73,9 +94,21 @@ module _ (t : Trust) where
   all-turns [] h = refl
   all-turns (x ∷ l) h = ap₂ (λ y r. y ∷ r) (turns x (h x (List·Memᴰ·head refl))) (all-turns l (λ y m. h y (List·Memᴰ·tail m)))
 
+  all-own : (d : ℕ) (l : List Executable)
+      → ((x : Executable) → List·Memᴰ x l → x .domain ≢ 0 → x .domain ≢ d → T (chains-to t (x .signing) (x .domain)))
+      → map (settled-in d t) l ≡ map (settled t) l
+  all-own d [] h = refl
+  all-own d (x ∷ l) h = ap₂ (λ y r. y ∷ r) (own-turn d x (h x (List·Memᴰ·head refl))) (all-own d l (λ y m. h y (List·Memᴰ·tail m)))
+
 by-domains : (p : Phone) → Domains-known p → settle-in 3 (settle-in 2 (settle-in 1 p)) ≡ settle p
 unfolding settle-in settle
 by-domains p k = ap (λ l. with-executables l p) (all-turns (p .trust) (p .executables) (k .known))
+
+pub settle-own : (d : ℕ) (p : Phone)
+    → ((x : Executable) → List·Memᴰ x (p .executables) → x .domain ≢ 0 → x .domain ≢ d → T (chains-to (p .trust) (x .signing) (x .domain)))
+    → settle-in d p ≡ settle p
+unfolding settle-in settle
+settle-own d p h = ap (λ l. with-executables l p) (all-own (p .trust) d (p .executables) h)
 
 -- ---- in an image
 

@@ -17,7 +17,7 @@ ghost use Rattle.rules.specs.ImageRules.{free-certificate};
 ghost use Rattle.rules.specs.Forms.{listed};
 ghost use Rattle.rules.specs.Codes.{has-id, is-executable};
 ghost use Rattle.rules.specs.Effects.{tick, card-rule, card-in, card-out, power-up, delete-certificate, on-a-card, mark-valid, mark-invalid, enabled-by, message, install-executable, delete-executable, verify, give, withdraw, settle};
-ghost use Rattle.chain.specs.Keys.{Lists, good-key};
+ghost use Rattle.chain.specs.Keys.{good-slots};
 ghost use Rattle.lookup.specs.Places.{first-place};
 ghost use Rattle.opening.specs.Opened.{Accepted-image};
 ghost use Rattle.effects.specs.Sweeps.{outgoing, retire, disables, settle-in, Next-unchained, Domains-known};
@@ -290,16 +290,16 @@ pub fn withdraw(s: &mut [u8], e: Event, slot: usize)
 // ---- settling
 
 // The first executable from a slot on that has the domain and does not chain to it, or the number of slots where there is none.
-fn next_unchained(s: &[u8], domain: u8, keys: &[u32], count: usize, from: usize) -> usize
+fn next_unchained(s: &[u8], domain: u8, good: u64, from: usize) -> usize
     requires { ⌜ Framed (now s) ⌝ }
-    requires { ⌜ (count ≤ length (now keys)) × (from ≤ length (decode (now s) .executables)) ⌝ }
-    requires { ⌜ Lists (good-key 4 (decode (now s) .trust) domain) (now keys) count ⌝ }
+    requires { ⌜ from ≤ length (decode (now s) .executables) ⌝ }
+    requires { ⌜ good ≡ good-slots (decode (now s) .trust) domain ⌝ }
     ensures { λ r. ⌜ Next-unchained domain (decode (now (s .entry))) from r ⌝ }
 {
     let slots = image::executable_slots(s);
     let mut i = from;
     while i < slots {
-        if !chain::is_chained(domain, keys, count, image::executable(s, i)) {
+        if !chain::is_chained(s, domain, good, image::executable(s, i)) {
             return i;
         }
         i += 1;
@@ -307,29 +307,27 @@ fn next_unchained(s: &[u8], domain: u8, keys: &[u32], count: usize, from: usize)
     slots
 }
 
-// Takes the domain of each executable of one domain whose key is not among the good ones.
-fn settle_by(s: &mut [u8], domain: u8, keys: &[u32], count: usize)
+// Takes the domain of each executable of one domain whose key no good slot has.
+fn settle_by(s: &mut [u8], domain: u8, good: u64)
     requires { ⌜ Framed (now s) ⌝ }
-    requires { ⌜ count ≤ length (now keys) ⌝ }
-    requires { ⌜ Lists (good-key 4 (decode (now s) .trust) domain) (now keys) count ⌝ }
+    requires { ⌜ good ≡ good-slots (decode (now s) .trust) domain ⌝ }
     ensures { λ _. ⌜ now (s .exit) ≡ encode (settle-in domain (decode (now (s .entry)))) ⌝ }
 {
     let slots = image::executable_slots(s);
-    let mut i = next_unchained(s, domain, keys, count, 0);
+    let mut i = next_unchained(s, domain, good, 0);
     while i < slots {
         image::set_domain(s, i, 0);
-        i = next_unchained(s, domain, keys, count, i + 1);
+        i = next_unchained(s, domain, good, i + 1);
     }
 }
 
-// The executables of one domain: its good keys are found once for all of them.
-fn settle_domain(s: &mut [u8], domain: u8)
+// The executables of one domain: its good slots are found once for all of them.
+pub fn settle_domain(s: &mut [u8], domain: u8)
     requires { ⌜ Framed (now s) ⌝ }
     ensures { λ _. ⌜ now (s .exit) ≡ encode (settle-in domain (decode (now (s .entry)))) ⌝ }
 {
-    let mut keys = [0u32; 64];
-    let count = chain::good_keys(s, domain, &mut keys);
-    settle_by(s, domain, &keys, count);
+    let good = chain::good_slots(s, domain);
+    settle_by(s, domain, good);
 }
 
 // "After every accepted event": each domain for itself, since a chain never leaves its domain.

@@ -27,7 +27,7 @@ use Rattle.demands.proofs.Told.{told as told-of-code, id-formed, action-formed}
 use Rattle.demands.proofs.Shape.{shape-effect, sized-shape}
 use Rattle.opening.specs.Opened.{Accepted-image}
 use Rattle.opening.proofs.Domains.{executable-domain}
-use Rattle.effects.specs.Sweeps.{Domains-known}
+use Rattle.effects.specs.Sweeps.{settle-in, Domains-known}
 use Rattle.events.specs.Stepped.{Handled}
 use Rattle.events.proofs.Still.{request-unchanged}
 
@@ -55,6 +55,12 @@ module _ (l : List ℕ) (e : Event) where
   unfolding changed
   handled-settled r c h x q l₁ l₂ i j =
       handled-done r c h x q l₂ (j ∙ ap (λ s. encode (settle (decode s))) i ∙ ap (λ p. encode (settle p)) (decode-encode (effect e (decode l))))
+
+  -- the effect is written, and one domain is settled, which is all that there is to settle
+  pub handled-turn : (r : ℕ) → r ≡ code-of (decode l) e → r ≡ 0 → (d : ℕ) → settle-in d (effect e (decode l)) ≡ changed e (decode l) → (x : Answer) → x ≡ done e (changed e (decode l)) → (l₁ l₂ : List ℕ) → l₁ ≡ encode (effect e (decode l)) → l₂ ≡ encode (settle-in d (decode l₁)) → Handled l e x l₂
+  handled-turn r c h d s x q l₁ l₂ i j =
+      handled-done r c h x q l₂
+      (j ∙ ap (λ s. encode (settle-in d (decode s))) i ∙ ap (λ p. encode (settle-in d p)) (decode-encode (effect e (decode l))) ∙ ap encode s)
 
   -- the effect is written, and there is nothing to settle
   pub handled-still : (r : ℕ) → r ≡ code-of (decode l) e → r ≡ 0 → changed e (decode l) ≡ effect e (decode l) → (x : Answer) → x ≡ done e (changed e (decode l)) → (l₁ : List ℕ) → l₁ ≡ encode (effect e (decode l)) → Handled l e x l₁

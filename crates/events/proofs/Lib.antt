@@ -1,4 +1,5 @@
 pub mod Still
+pub mod Own
 pub mod Tells
 pub mod Handles
 pub mod Steps

@@ -136,8 +136,10 @@ fn delete_certificate(s: &mut [u8], e: Event) -> Answer
     if plan.code != 0 {
         return refused(plan.code);
     }
+    // A chain stays in its domain: only those of the certificate's own can break.
+    let gone = image::certificate(s, plan.slot);
     effects::delete_certificate(s, e, plan.slot);
-    effects::settle(s);
+    effects::settle_domain(s, gone.domain);
     refused(0)
 }
 
@@ -168,8 +170,9 @@ fn mark_invalid(s: &mut [u8], e: Event) -> Answer
     if plan.code != 0 {
         return refused(plan.code);
     }
+    let root = image::certificate(s, plan.slot);
     effects::mark_invalid(s, e, plan.slot);
-    effects::settle(s);
+    effects::settle_domain(s, root.domain);
     refused(0)
 }
 

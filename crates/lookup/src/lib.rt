@@ -3,7 +3,9 @@ use records::Certificate;
 use records::image;
 ghost use mathlib.Core.Bool.{_&&_};
 ghost use mathlib.Core.Path.{_≡_};
+ghost use Prim.Native.Nat.{_+_, _≤_};
 ghost use lib.Dec.{eqb};
+ghost use lib.ListN.{length, drop};
 ghost use Rattle.records.specs.Phone.{decode};
 ghost use Rattle.records.specs.Frame.{Framed};
 ghost use Rattle.rules.specs.ImageRules.{in-card-table, known-place, operator-of, valid-in, has-valid-operator};
@@ -26,13 +28,15 @@ pub fn certificate_slot(s: &[u8], id: u16) -> usize
     slots
 }
 
-// The slot of the executable with this id, or the number of slots where there is none. Id 0 finds the lowest free slot.
-pub fn executable_slot(s: &[u8], id: u16) -> usize
+// The same of an executable, where no slot before `from` has the id.
+fn executable_from(s: &[u8], id: u16, from: usize) -> usize
     requires { ⌜ Framed (now s) ⌝ }
+    requires { ⌜ from ≤ length (decode (now s) .executables) ⌝ }
+    requires { ⌜ first-place (is-executable id) (decode (now s) .executables) ≡ from + first-place (is-executable id) (drop from (decode (now s) .executables)) ⌝ }
     ensures { λ r. ⌜ r ≡ first-place (is-executable id) (decode (now (s .entry)) .executables) ⌝ }
 {
     let slots = image::executable_slots(s);
-    let mut i: usize = 0;
+    let mut i = from;
     while i < slots {
         if image::executable_has_id(s, i, id) {
             return i;
@@ -40,6 +44,32 @@ pub fn executable_slot(s: &[u8], id: u16) -> usize
         i += 1;
     }
     slots
+}
+
+// The slot of the executable with this id, or the number of slots where there is none. Id 0 finds the lowest free slot. Most events name
+// an executable, so it is looked for four slots a turn: whether there is a next turn costs as much to ask as two slots.
+pub fn executable_slot(s: &[u8], id: u16) -> usize
+    requires { ⌜ Framed (now s) ⌝ }
+    ensures { λ r. ⌜ r ≡ first-place (is-executable id) (decode (now (s .entry)) .executables) ⌝ }
+{
+    let slots = image::executable_slots(s);
+    let mut i: usize = 0;
+    while i + 3 < slots {
+        if image::executable_has_id(s, i, id) {
+            return i;
+        }
+        if image::executable_has_id(s, i + 1, id) {
+            return i + 1;
+        }
+        if image::executable_has_id(s, i + 2, id) {
+            return i + 2;
+        }
+        if image::executable_has_id(s, i + 3, id) {
+            return i + 3;
+        }
+        i += 4;
+    }
+    executable_from(s, id, i)
 }
 
 // What an install of an executable finds: its id taken, no free slot, or the lowest free one.

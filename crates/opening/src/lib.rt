@@ -2,14 +2,12 @@
 use records::Certificate;
 use records::image;
 ghost use mathlib.Core.Path.{_≡_};
-ghost use Prim.Native.Nat.{_≤_};
 ghost use lib.Dec.{T};
-ghost use lib.ListN.{length};
 ghost use Rattle.records.specs.Phone.{decode};
 ghost use Rattle.records.specs.Frame.{Framed};
 ghost use Rattle.rules.specs.Words.{all, all-pairs};
 ghost use Rattle.rules.specs.ImageRules.{known-place, card-owns, one-in-place, yields-to-card, one-manufacturer, i3, i4, i5, i7, i8};
-ghost use Rattle.chain.specs.Keys.{Lists, good-key, chained-in};
+ghost use Rattle.chain.specs.Keys.{chained-in, good-slots};
 ghost use Rattle.opening.specs.Opened.{Opened};
 
 // ---- I3 Card
@@ -208,16 +206,16 @@ fn i5(s: &[u8]) -> bool
 
 // ---- I8
 
-fn all_chained(s: &[u8], domain: u8, keys: &[u32], count: usize) -> bool
+// Whether every executable of a domain chains to it, by the good slots of the domain.
+fn all_chained(s: &[u8], domain: u8, good: u64) -> bool
     requires { ⌜ Framed (now s) ⌝ }
-    requires { ⌜ count ≤ length (now keys) ⌝ }
-    requires { ⌜ Lists (good-key 4 (decode (now s) .trust) domain) (now keys) count ⌝ }
+    requires { ⌜ good ≡ good-slots (decode (now s) .trust) domain ⌝ }
     ensures { λ r. ⌜ r ≡ all (chained-in domain (decode (now (s .entry)) .trust)) (decode (now (s .entry)) .executables) ⌝ }
 {
     let slots = image::executable_slots(s);
     let mut i: usize = 0;
     while i < slots {
-        if !chain::is_chained(domain, keys, count, image::executable(s, i)) {
+        if !chain::is_chained(s, domain, good, image::executable(s, i)) {
             return false;
         }
         i += 1;
@@ -230,9 +228,7 @@ fn domain_chained(s: &[u8], domain: u8) -> bool
     requires { ⌜ Framed (now s) ⌝ }
     ensures { λ r. ⌜ r ≡ all (chained-in domain (decode (now (s .entry)) .trust)) (decode (now (s .entry)) .executables) ⌝ }
 {
-    let mut keys = [0u32; 64];
-    let count = chain::good_keys(s, domain, &mut keys);
-    all_chained(s, domain, &keys, count)
+    all_chained(s, domain, chain::good_slots(s, domain))
 }
 
 // By domains, of which I7 allows 1 to 3.

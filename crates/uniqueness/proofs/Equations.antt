@@ -48,6 +48,15 @@ one-bits-set-bit κs a r r′ e e′ = returned
 pub one-bits-clear-bit : One-result Rattle.bits.proofs.clear_bit.Reads.Learnt
 one-bits-clear-bit κs a r r′ e e′ = returned
 
+pub one-slots-with-slot : One-result Rattle.bits.proofs.slots.with_slot.Reads.Learnt
+one-slots-with-slot κs a r r′ e e′ = returned
+
+pub one-slots-lowest : One-result Rattle.bits.proofs.slots.lowest.Reads.Learnt
+one-slots-lowest κs a r r′ e e′ = returned
+
+pub one-slots-rest : One-result Rattle.bits.proofs.slots.rest.Reads.Learnt
+one-slots-rest κs a r r′ e e′ = returned
+
 -- ==== records
 
 pub one-header-version : One-result Rattle.records.proofs.Header.version.Reads.Learnt
@@ -312,6 +321,12 @@ one-chain-in-date κs a r r′ e e′ = returned
 pub one-chain-valid-root : One-result Rattle.chain.proofs.valid_root.Reads.Learnt
 one-chain-valid-root κs a r r′ e e′ = returned
 
+pub one-chain-good-slots : One-result Rattle.chain.proofs.good_slots.Reads.Learnt
+one-chain-good-slots κs a r r′ e e′ = returned
+
+pub one-chain-is-chained : One-result Rattle.chain.proofs.is_chained.Reads.Learnt
+one-chain-is-chained κs a r r′ e e′ = returned
+
 pub one-chain-is-good : One-result Rattle.chain.proofs.is_good.Reads.Learnt
 one-chain-is-good κs a r r′ e e′ = returned
 
@@ -416,6 +431,9 @@ one-effects-give κs a r r′ e e′ = written
 
 pub one-effects-withdraw : One-outcome Rattle.effects.proofs.withdraw.Reads.Learnt (λ e. e .0 .now ∷ [])
 one-effects-withdraw κs a r r′ e e′ = written
+
+pub one-effects-settle-domain : One-outcome Rattle.effects.proofs.settle_domain.Reads.Learnt (λ e. e .0 .now ∷ [])
+one-effects-settle-domain κs a r r′ e e′ = written
 
 pub one-effects-settle : One-outcome Rattle.effects.proofs.settle.Reads.Learnt (λ e. e .0 .now ∷ [])
 one-effects-settle κs a r r′ e e′ = written

@@ -11,7 +11,7 @@ shl-result c = search needs
 
 -- src/lib.rt:23:1
 returns : tie.Need-returns
-returns c = and-put (c .args .w) (c .args .k) (c .fits .w .fits) (c .pre)
+returns c = and-put 32 (c .args .w) (c .args .k) (c .fits .w .fits) (c .pre)
 
 pub clear-bit-spec : {M : Type 1} → statement M
 clear-bit-spec = tie.close (tie.spec shl-result returns)

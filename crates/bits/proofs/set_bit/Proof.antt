@@ -11,7 +11,7 @@ shl-result c = search needs
 
 -- src/lib.rt:15:1
 returns : tie.Need-returns
-returns c = or-put (c .args .w) (c .args .k) (c .pre)
+returns c = or-put 32 (c .args .w) (c .args .k) (c .pre)
 
 pub set-bit-spec : {M : Type 1} → statement M
 set-bit-spec = tie.close (tie.spec shl-result returns)

@@ -1,9 +1,6 @@
+use borrow.Author.Tests.{not-true, not-false}
+use Rattle.chain.proofs.Slot.{never-good, good-root, good-unlinked, good-by}
 use borrow.Author.Needs.{needs}
-use Prim.Native.Nat.{suc, _-_}
-use mathlib.Core.Path.{_≡_}
-use Rattle.records.specs.Phone.{decode}
-use Rattle.chain.proofs.Rounds.{never-good, is-good-by}
-use native.Mathlib.Omega.{arith}
 use Rattle.chain.proofs.is_good.Statement.{statement}
 use Rattle.chain.proofs.is_good.Tie as tie
 
@@ -13,35 +10,36 @@ returns c = never-good _ _ _ (c .if1 .taken)
 certificate-requires : tie.Need-certificate-requires
 certificate-requires c κs = search needs
 
-slice-aggregate-candidates : tie.Need-slice-aggregate-candidates
-slice-aggregate-candidates c = search needs
-
-candidates-requires : tie.Need-candidates-requires
-candidates-requires c κs = search needs
-
-sub-good-within : tie.Need-sub-good-within
-sub-good-within c = search needs
-
-slice-aggregate-good-within : tie.Need-slice-aggregate-good-within
-slice-aggregate-good-within c = search needs
-
-good-within-requires : tie.Need-good-within-requires
-good-within-requires c κs = search needs
-
-is-candidate-requires : tie.Need-is-candidate-requires
-is-candidate-requires c κs = search needs
-
-slice-aggregate-is-reached : tie.Need-slice-aggregate-is-reached
-slice-aggregate-is-reached c = search needs
-
-is-reached-requires : tie.Need-is-reached-requires
-is-reached-requires c κs = search needs
+trusted-root-requires : tie.Need-trusted-root-requires
+trusted-root-requires c κs = search needs
 
 returns-2 : tie.Need-returns-2
 returns-2 c =
-    let a = c .before .before .before .before .before .before .before .before .before .before .before .before .before .args in
-    let e : suc (a .n - 1) ≡ a .n = omega arith in
-    is-good-by (a .n - 1) (a .n) e (decode (a .s .now) .trust) _ _ (c .before .before .before .before .before .before .before .before .before .before .certificate .ensures) _ _ (c .before .before .before .before .good-within .ensures .1 _ (c .before .before .before .before .before .before .before .before .candidates .ensures)) _ _ (c .before .before .is-candidate .ensures) (c .is-reached .ensures)
+    good-root _ _ (c .before .before .before .if1 .left) _ _ (c .before .before .certificate .ensures) _ (c .before .trusted-root .ensures) (c .if2 .taken)
+
+is-link-requires : tie.Need-is-link-requires
+is-link-requires c κs = search needs
+
+returns-3 : tie.Need-returns-3
+returns-3 c =
+    let z = c .before .before in
+    let q = z .before .before .certificate .ensures in
+    let g = good-unlinked _ _ (z .before .before .before .if1 .left) _ _ q _ (z .before .trusted-root .ensures) (z .if2 .left) in
+    g _ (c .before .is-link .ensures) (not-true _ (c .if3 .taken))
+
+sub-links-within : tie.Need-sub-links-within
+sub-links-within c = search needs
+
+links-within-requires : tie.Need-links-within-requires
+links-within-requires c κs = search needs
+
+returns-4 : tie.Need-returns-4
+returns-4 c =
+    let y = c .before in
+    let z = y .before .before in
+    let q = z .before .before .certificate .ensures in
+    let g = good-by _ _ (z .before .before .before .if1 .left) _ _ q _ (z .before .trusted-root .ensures) (z .if2 .left) in
+    g _ (y .before .is-link .ensures) (not-false _ (y .if3 .left)) _ (c .links-within .ensures)
 
 pub is-good-spec : {M : Type 1} → statement M
 is-good-spec =
@@ -49,12 +47,10 @@ is-good-spec =
     (tie.spec
     returns
     certificate-requires
-    slice-aggregate-candidates
-    candidates-requires
-    sub-good-within
-    slice-aggregate-good-within
-    good-within-requires
-    is-candidate-requires
-    slice-aggregate-is-reached
-    is-reached-requires
-    returns-2)
+    trusted-root-requires
+    returns-2
+    is-link-requires
+    returns-3
+    sub-links-within
+    links-within-requires
+    returns-4)

@@ -12,21 +12,20 @@ use Rattle.effects.proofs.next_unchained.Statement.{statement}
 use Rattle.effects.proofs.next_unchained.Tie as tie
 
 abbrev Inv-loop : tie.InvT-loop
-Inv-loop s domain keys count from slots i₀ i =
+Inv-loop s domain good from slots i₀ i =
     (from ≤ i)
     × (i ≤ slots)
     × (slots ≡ length (decode s .executables))
-    × (count ≤ length keys)
     × ((j : ℕ) → j < i → from ≤ j → chained-in domain (decode s .trust) (executable-at (decode s) j) ≡ true)
 
 abbrev μ-loop : tie.MeasureT-loop
-μ-loop s domain keys count from slots i₀ i = slots - i
+μ-loop s domain good from slots i₀ i = slots - i
 
 executable-slots-requires : tie.Need-executable-slots-requires Inv-loop μ-loop
 executable-slots-requires c κs = search needs
 
 loop-holds : tie.Need-loop-holds Inv-loop μ-loop
-loop-holds c = (omega arith, search needs, search needs, search needs, λ j lt le. absurd (omega arith))
+loop-holds c = (omega arith, search needs, search needs, λ j lt le. absurd (omega arith))
 
 executable-requires : tie.Need-executable-requires Inv-loop μ-loop
 executable-requires c κs = search needs
@@ -37,12 +36,12 @@ is-chained-requires c κs = search needs
 returns : tie.Need-returns Inv-loop μ-loop
 returns c =
     let v = c .before .before .before .before .loop in
-    let z = c .before .before .before .before .before .before .before .before in
+    let z = c .before .before .before .before .before .before .before in
     record {
       behind = v .inv .0;
       within = omega arith;
-      passed = v .inv .4;
-      here = λ _. ap (chained-in _ _) (sym (c .before .before .executable .ensures)) ∙ sym (c .before .is-chained .ensures _ (z .pre .1 .1)) ∙ not-true _ (c .if1 .taken);
+      passed = v .inv .3;
+      here = λ _. ap (chained-in _ _) (sym (c .before .before .executable .ensures)) ∙ sym (c .before .is-chained .ensures) ∙ not-true _ (c .if1 .taken);
     }
 
 add-i : tie.Need-add-i Inv-loop μ-loop
@@ -54,19 +53,18 @@ loop-less c = search needs
 loop-again : tie.Need-loop-again Inv-loop μ-loop
 loop-again c =
     let v = c .before .before .before .before .loop in
-    let z = c .before .before .before .before .before .before .before .before in (
+    let z = c .before .before .before .before .before .before .before in (
       omega arith,
       omega arith,
       search needs,
-      search needs,
-      below-more (λ j. z .args .from ≤ j → chained-in (z .args .domain) (decode (z .args .s .now) .trust) (executable-at (decode (z .args .s .now)) j) ≡ true) (v .i) (v .inv .4) (λ _. ap (chained-in _ _) (sym (c .before .before .executable .ensures)) ∙ sym (c .before .is-chained .ensures _ (z .pre .1 .1)) ∙ not-false _ (c .if1 .left)),
+      below-more (λ j. z .args .from ≤ j → chained-in (z .args .domain) (decode (z .args .s .now) .trust) (executable-at (decode (z .args .s .now)) j) ≡ true) (v .i) (v .inv .3) (λ _. ap (chained-in _ _) (sym (c .before .before .executable .ensures)) ∙ sym (c .before .is-chained .ensures) ∙ not-false _ (c .if1 .left)),
     )
 
 returns-2 : tie.Need-returns-2 Inv-loop μ-loop
 returns-2 c =
     let v = c .before .loop in
-    let e : v .i ≡ length (decode (c .before .before .before .before .before .args .s .now) .executables) = omega arith in
-    record { behind = omega arith; within = omega arith; passed = λ j lt le. v .inv .4 j (omega arith) le; here = λ lt. absurd (omega arith) }
+    let e : v .i ≡ length (decode (c .before .before .before .before .args .s .now) .executables) = omega arith in
+    record { behind = omega arith; within = omega arith; passed = λ j lt le. v .inv .3 j (omega arith) le; here = λ lt. absurd (omega arith) }
 
 pub next-unchained-spec : {M : Type 1} → statement M
 next-unchained-spec =

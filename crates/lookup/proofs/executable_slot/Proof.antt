@@ -1,18 +1,23 @@
 use native.Mathlib.Nat.{zero-add}
 use borrow.Author.Needs.{needs}
 use native.Mathlib.Omega.{arith}
-use Prim.Native.Nat.{_+_, _≤_, _-_}
+use Prim.Native.Nat.{ℕ, _+_, _≤_, _-_}
+use mathlib.Core.List.{List}
 use lib.ListN.{length, drop}
 use mathlib.Core.Path.{_≡_, sym, _∙_}
 use Rattle.records.specs.Phone.{decode, no-executable}
 use Rattle.rules.specs.Codes.{is-executable}
 use Rattle.lookup.specs.Places.{first-place}
-use Rattle.lookup.proofs.Places.{place-here, place-next, place-end}
+use Rattle.lookup.proofs.Places.{place-here, place-next, place-past}
 use Rattle.lookup.proofs.executable_slot.Statement.{statement}
 use Rattle.lookup.proofs.executable_slot.Tie as tie
 
+-- no slot before j has the id
+abbrev Passed : List ℕ → ℕ → ℕ → Type 0
+Passed s id j = first-place (is-executable id) (decode s .executables) ≡ j + first-place (is-executable id) (drop j (decode s .executables))
+
 abbrev Inv-loop : tie.InvT-loop
-Inv-loop s id slots i₀ i = (i ≤ slots) × (slots ≡ length (decode s .executables)) × (first-place (is-executable id) (decode s .executables) ≡ i + first-place (is-executable id) (drop i (decode s .executables)))
+Inv-loop s id slots i₀ i = (i ≤ slots) × (slots ≡ length (decode s .executables)) × Passed s id i
 
 abbrev μ-loop : tie.MeasureT-loop
 μ-loop s id slots i₀ i = slots - i
@@ -23,23 +28,94 @@ executable-slots-requires c κs = search needs
 loop-holds : tie.Need-loop-holds Inv-loop μ-loop
 loop-holds c = (search needs, search needs, sym (zero-add _))
 
+add-loop : tie.Need-add-loop Inv-loop μ-loop
+add-loop c = search needs
+
 executable-has-id-requires : tie.Need-executable-has-id-requires Inv-loop μ-loop
-executable-has-id-requires c κs = search needs
+executable-has-id-requires c κs = (search needs, omega arith)
 
 returns : tie.Need-returns Inv-loop μ-loop
-returns c = place-here _ no-executable _ (c .before .before .before .loop .i) (c .before .before .before .loop .inv .2) (omega arith) (sym (c .before .executable-has-id .ensures) ∙ c .if1 .taken)
+returns c =
+    let v = c .before .before .before .loop in
+    place-here _ no-executable _ (v .i) (v .inv .2) (omega arith) (sym (c .before .executable-has-id .ensures) ∙ c .if1 .taken)
+
+-- four slots, one after the other
+one : (c : tie.Else1 Inv-loop μ-loop) → let z = c .before .before .before in let a = z .before .before .before .args in Passed (a .s .now) (a .id) (z .loop .i + 1)
+one c =
+    let v = c .before .before .before .loop in
+    place-next _ no-executable _ (v .i) (v .inv .2) (omega arith) (sym (c .before .executable-has-id .ensures) ∙ c .if1 .left)
+
+two : (c : tie.Else2 Inv-loop μ-loop) → let z = c .before .before .before .before .before in let a = z .before .before .before .args in Passed (a .s .now) (a .id) (z .loop .i + 2)
+two c =
+    let i = c .before .before .before .before .before .loop .i in
+    place-past _ no-executable _ (i + 1) (omega arith) (one (c .before .before)) (omega arith) (sym (c .before .executable-has-id2 .ensures) ∙ c .if2 .left)
+
+three : (c : tie.Else3 Inv-loop μ-loop) → let z = c .before .before .before .before .before .before .before in let a = z .before .before .before .args in Passed (a .s .now) (a .id) (z .loop .i + 3)
+three c =
+    let i = c .before .before .before .before .before .before .before .loop .i in
+    place-past _ no-executable _ (i + 2) (omega arith) (two (c .before .before)) (omega arith) (sym (c .before .executable-has-id3 .ensures) ∙ c .if3 .left)
+
+four : (c : tie.Else4 Inv-loop μ-loop) → let z = c .before .before .before .before .before .before .before .before .before in let a = z .before .before .before .args in Passed (a .s .now) (a .id) (z .loop .i + 4)
+four c =
+    let i = c .before .before .before .before .before .before .before .before .before .loop .i in
+    place-past _ no-executable _ (i + 3) (omega arith) (three (c .before .before)) (omega arith) (sym (c .before .executable-has-id4 .ensures) ∙ c .if4 .left)
+
+add-executable-has-id : tie.Need-add-executable-has-id Inv-loop μ-loop
+add-executable-has-id c = search needs
+
+executable-has-id-requires-2 : tie.Need-executable-has-id-requires-2 Inv-loop μ-loop
+executable-has-id-requires-2 c κs = (search needs, omega arith)
+
+add-result : tie.Need-add-result Inv-loop μ-loop
+add-result c = search needs
+
+returns-2 : tie.Need-returns-2 Inv-loop μ-loop
+returns-2 c =
+    let i = c .before .before .before .before .before .loop .i in
+    place-here _ no-executable _ (i + 1) (one (c .before .before)) (omega arith) (sym (c .before .executable-has-id2 .ensures) ∙ c .if2 .taken)
+
+add-executable-has-id-2 : tie.Need-add-executable-has-id-2 Inv-loop μ-loop
+add-executable-has-id-2 c = search needs
+
+executable-has-id-requires-3 : tie.Need-executable-has-id-requires-3 Inv-loop μ-loop
+executable-has-id-requires-3 c κs = (search needs, omega arith)
+
+add-result-2 : tie.Need-add-result-2 Inv-loop μ-loop
+add-result-2 c = search needs
+
+returns-3 : tie.Need-returns-3 Inv-loop μ-loop
+returns-3 c =
+    let i = c .before .before .before .before .before .before .before .loop .i in
+    place-here _ no-executable _ (i + 2) (two (c .before .before)) (omega arith) (sym (c .before .executable-has-id3 .ensures) ∙ c .if3 .taken)
+
+add-executable-has-id-3 : tie.Need-add-executable-has-id-3 Inv-loop μ-loop
+add-executable-has-id-3 c = search needs
+
+executable-has-id-requires-4 : tie.Need-executable-has-id-requires-4 Inv-loop μ-loop
+executable-has-id-requires-4 c κs = (search needs, omega arith)
+
+add-result-3 : tie.Need-add-result-3 Inv-loop μ-loop
+add-result-3 c = search needs
+
+returns-4 : tie.Need-returns-4 Inv-loop μ-loop
+returns-4 c =
+    let i = c .before .before .before .before .before .before .before .before .before .loop .i in
+    place-here _ no-executable _ (i + 3) (three (c .before .before)) (omega arith) (sym (c .before .executable-has-id4 .ensures) ∙ c .if4 .taken)
 
 add-i : tie.Need-add-i Inv-loop μ-loop
 add-i c = search needs
 
 loop-less : tie.Need-loop-less Inv-loop μ-loop
-loop-less c = search needs
+loop-less c = omega arith
 
 loop-again : tie.Need-loop-again Inv-loop μ-loop
-loop-again c = (search needs, search needs, place-next _ no-executable _ (c .before .before .before .loop .i) (c .before .before .before .loop .inv .2) (omega arith) (sym (c .before .executable-has-id .ensures) ∙ c .if1 .left))
+loop-again c = (omega arith, search needs, four c)
 
-returns-2 : tie.Need-returns-2 Inv-loop μ-loop
-returns-2 c = (omega (arith, place-end _ no-executable _ (c .before .loop .i) (c .before .loop .inv .2) (omega arith)))
+executable-from-requires : tie.Need-executable-from-requires Inv-loop μ-loop
+executable-from-requires c κs = let v = c .before .loop in (search needs, (omega arith, v .inv .2))
+
+returns-5 : tie.Need-returns-5 Inv-loop μ-loop
+returns-5 c = c .executable-from .ensures
 
 pub executable-slot-spec : {M : Type 1} → statement M
 executable-slot-spec =
@@ -49,9 +125,23 @@ executable-slot-spec =
     μ-loop
     executable-slots-requires
     loop-holds
+    add-loop
     executable-has-id-requires
     returns
+    add-executable-has-id
+    executable-has-id-requires-2
+    add-result
+    returns-2
+    add-executable-has-id-2
+    executable-has-id-requires-3
+    add-result-2
+    returns-3
+    add-executable-has-id-3
+    executable-has-id-requires-4
+    add-result-3
+    returns-4
     add-i
     loop-less
     loop-again
-    returns-2)
+    executable-from-requires
+    returns-5)

@@ -11,10 +11,10 @@ use Rattle.opening.proofs.all_chained.Statement.{statement}
 use Rattle.opening.proofs.all_chained.Tie as tie
 
 abbrev Inv-loop : tie.InvT-loop
-Inv-loop s domain keys count slots i₀ i = (i ≤ slots) × (slots ≡ length (decode s .executables)) × (all (chained-in domain (decode s .trust)) (drop i (decode s .executables)) ≡ all (chained-in domain (decode s .trust)) (decode s .executables))
+Inv-loop s domain good slots i₀ i = (i ≤ slots) × (slots ≡ length (decode s .executables)) × (all (chained-in domain (decode s .trust)) (drop i (decode s .executables)) ≡ all (chained-in domain (decode s .trust)) (decode s .executables))
 
 abbrev μ-loop : tie.MeasureT-loop
-μ-loop s domain keys count slots i₀ i = slots - i
+μ-loop s domain good slots i₀ i = slots - i
 
 executable-slots-requires : tie.Need-executable-slots-requires Inv-loop μ-loop
 executable-slots-requires c κs = search needs
@@ -29,7 +29,7 @@ is-chained-requires : tie.Need-is-chained-requires Inv-loop μ-loop
 is-chained-requires c κs = search needs
 
 returns : tie.Need-returns Inv-loop μ-loop
-returns c = all-stops no-executable _ (c .before .before .before .before .loop .i) _ _ (c .before .before .before .before .loop .inv .2) (omega arith) (c .before .before .executable .ensures) (c .before .is-chained .ensures _ (c .before .before .before .before .before .before .before .before .pre .1 .1)) (c .if1 .taken)
+returns c = all-stops no-executable _ (c .before .before .before .before .loop .i) _ _ (c .before .before .before .before .loop .inv .2) (omega arith) (c .before .before .executable .ensures) (c .before .is-chained .ensures) (c .if1 .taken)
 
 add-i : tie.Need-add-i Inv-loop μ-loop
 add-i c = search needs
@@ -38,7 +38,7 @@ loop-less : tie.Need-loop-less Inv-loop μ-loop
 loop-less c = search needs
 
 loop-again : tie.Need-loop-again Inv-loop μ-loop
-loop-again c = (search needs, search needs, all-goes-on no-executable _ (c .before .before .before .before .loop .i) _ _ (c .before .before .before .before .loop .inv .2) (omega arith) (c .before .before .executable .ensures) (c .before .is-chained .ensures _ (c .before .before .before .before .before .before .before .before .pre .1 .1)) (c .if1 .left))
+loop-again c = (search needs, search needs, all-goes-on no-executable _ (c .before .before .before .before .loop .i) _ _ (c .before .before .before .before .loop .inv .2) (omega arith) (c .before .before .executable .ensures) (c .before .is-chained .ensures) (c .if1 .left))
 
 returns-2 : tie.Need-returns-2 Inv-loop μ-loop
 returns-2 c = all-passes no-executable _ (c .before .loop .i) _ _ (c .before .loop .inv .2) (omega arith)
