@@ -13,19 +13,57 @@ pub const IMAGE_MAX: usize = 2536;
 /// An event, in bytes.
 pub const EVENT_SIZE: usize = 24;
 /// An answer of a run, in bytes.
-const ANSWER_SIZE: usize = 3;
+const ANSWER_SIZE: usize = 6;
 
-/// What an event is told. Domain and links are 0 for every code but 0.
+/// Where an image is wrong: the first broken rule, 1 to 8, and an offset.
+///
+/// For rule 1 the offset is the first byte of the first wrong field of the
+/// header, or the length of a buffer shorter than 40 bytes. For rules 2 to 8 it
+/// is the first byte of the lowest record that breaks the rule alone or together
+/// with lower ones, or 12 where the card present is not in the table.
+#[derive(Clone, Copy, Debug, PartialEq, Eq)]
+pub struct Fault {
+    pub rule: u8,
+    pub offset: u16,
+}
+
+/// What an event is told. Domain and links are 0 for every code but 0, rule and
+/// offset for every code but 1, where they are those of the image's `Fault`.
 #[derive(Clone, Copy, Debug, PartialEq, Eq)]
 pub struct Answer {
     pub code: u8,
     pub domain: u8,
     pub links: u8,
+    pub rule: u8,
+    pub offset: u16,
+}
+
+/// The parts of a number: links in its bits 0 to 7, domain in 8 to 15, code in
+/// 16 to 23, rule in 24 to 31 and offset in 32 to 47.
+fn from_number(told: u64) -> Answer {
+    Answer {
+        code: (told >> 16) as u8,
+        domain: (told >> 8) as u8,
+        links: told as u8,
+        rule: (told >> 24) as u8,
+        offset: (told >> 32) as u16,
+    }
+}
+
+/// The parts of an answer of a run, the offset high byte first.
+fn from_bytes(told: &[u8]) -> Answer {
+    Answer {
+        code: told[0],
+        domain: told[1],
+        links: told[2],
+        rule: told[3],
+        offset: u16::from_be_bytes([told[4], told[5]]),
+    }
 }
 
 extern "C" {
-    fn monitor_open(image: *const u8, image_length: usize) -> u8;
-    fn monitor_step(image: *mut u8, image_length: usize, event: *const u8, event_length: usize) -> u32;
+    fn monitor_open(image: *const u8, image_length: usize) -> u64;
+    fn monitor_step(image: *mut u8, image_length: usize, event: *const u8, event_length: usize) -> u64;
     fn monitor_run(
         image: *mut u8,
         image_length: usize,
@@ -36,18 +74,22 @@ extern "C" {
     ) -> usize;
 }
 
-/// Whether the bytes are an image that keeps every rule. False for any others:
+/// Whether the bytes are an image that keeps every rule, and where not. Any bytes:
 /// too short, too long, damaged.
-pub fn open(image: &[u8]) -> bool {
-    unsafe { monitor_open(image.as_ptr(), image.len()) == 0 }
+pub fn open(image: &[u8]) -> Result<(), Fault> {
+    let told = unsafe { monitor_open(image.as_ptr(), image.len()) };
+    if told == 0 {
+        return Ok(());
+    }
+    let Answer { rule, offset, .. } = from_number(told);
+    Err(Fault { rule, offset })
 }
 
 /// One event on an image, which is then the image after it. Code 1 where the
 /// image is not accepted, 2 where the event is not 24 bytes or breaks its form;
 /// every code but 0 leaves the image byte for byte.
 pub fn step(image: &mut [u8], event: &[u8]) -> Answer {
-    let told = unsafe { monitor_step(image.as_mut_ptr(), image.len(), event.as_ptr(), event.len()) };
-    Answer { code: (told >> 16) as u8, domain: (told >> 8) as u8, links: told as u8 }
+    from_number(unsafe { monitor_step(image.as_mut_ptr(), image.len(), event.as_ptr(), event.len()) })
 }
 
 /// The events of a buffer one after the other, as `step` would answer each, on
@@ -67,7 +109,5 @@ pub fn run(image: &mut [u8], events: &[u8]) -> Vec<Answer> {
         )
     };
     debug_assert_eq!(answered, count);
-    told.chunks_exact(ANSWER_SIZE)
-        .map(|a| Answer { code: a[0], domain: a[1], links: a[2] })
-        .collect()
+    told.chunks_exact(ANSWER_SIZE).map(from_bytes).collect()
 }

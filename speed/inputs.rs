@@ -1,4 +1,5 @@
-//! The images and events that are measured: a full phone as a class might have it, the worst case for the search, and a lesson.
+//! The images and events that are measured: a full phone as a class might have it, the worst case for the search, and a lesson;
+//! and damaged images, which both monitors have to refuse for the same rule and at the same byte.
 
 pub const SIZES: [usize; 4] = [8, 16, 32, 64];
 pub const EVENT: usize = 24;
@@ -90,24 +91,55 @@ fn worst_certificates(slots: usize) -> Vec<Certificate> {
     all
 }
 
+/// Where the parts of an image begin, of which certificates and executables have this many slots.
+struct Frame {
+    slots: usize,
+    cards_at: usize,
+    executables_at: usize,
+    table_at: usize,
+    total: usize,
+}
+
+impl Frame {
+    fn of(slots: usize) -> Frame {
+        let cards_at = 40 + 24 * slots;
+        let executables_at = cards_at + 8 * CARDS as usize;
+        let table_at = executables_at + 12 * slots;
+        Frame { slots, cards_at, executables_at, table_at, total: table_at + 4 * ACTIONS }
+    }
+
+    fn certificate(&self, slot: usize) -> usize {
+        40 + 24 * slot
+    }
+
+    fn card(&self, index: usize) -> usize {
+        self.cards_at + 8 * index
+    }
+
+    fn executable(&self, slot: usize) -> usize {
+        self.executables_at + 12 * slot
+    }
+
+    fn row(&self, action: usize) -> usize {
+        self.table_at + 4 * action
+    }
+}
+
 /// An image: 0 is the full phone, 1 the worst case for the search.
 pub fn image(which: usize, slots: usize) -> Vec<u8> {
     let certificates = match which {
         0 => full_certificates(slots),
         _ => worst_certificates(slots),
     };
-    let cards_at = 40 + 24 * slots;
-    let executables_at = cards_at + 8 * CARDS as usize;
-    let table_at = executables_at + 12 * slots;
-    let total = table_at + 4 * ACTIONS;
-    let mut all = Vec::with_capacity(total);
+    let frame = Frame::of(slots);
+    let mut all = Vec::with_capacity(frame.total);
     let counts = [1, slots as u16, CARDS, slots as u16, ACTIONS as u16, 1, 1, 0];
     counts.iter().for_each(|count| put16(&mut all, *count));
     put32(&mut all, CLOCK);
-    let ends = [40, cards_at, executables_at, table_at, total];
+    let ends = [40, frame.cards_at, frame.executables_at, frame.table_at, frame.total];
     ends.iter().for_each(|at| put32(&mut all, *at as u32));
     certificates.iter().for_each(|record| record.write(&mut all));
-    all.resize(cards_at, 0);
+    all.resize(frame.cards_at, 0);
     for card in 1..=CARDS {
         put16(&mut all, card);
         put16(&mut all, 0);
@@ -116,7 +148,7 @@ pub fn image(which: usize, slots: usize) -> Vec<u8> {
     for n in 0..slots - 2 {
         write_executable(&mut all, n, &certificates, which);
     }
-    all.resize(table_at, 0);
+    all.resize(frame.table_at, 0);
     for action in 0..ACTIONS {
         all.extend_from_slice(&[[2, 2, 2, 2], [1, 2, 2, 1], [0, 1, 2, 1]][action % 3]);
     }
@@ -257,4 +289,149 @@ pub fn rows(slots: usize) -> Vec<Row> {
         Row { name: "clock-worst", image: 1, events: clock(CLOCK + 1), before: 0, code: Some(0) },
         Row { name: "lesson", image: 0, events: lesson(slots).concat(), before: 0, code: None },
     ]
+}
+
+/// An image to open, and the rule that it breaks and where; both are 0 where it is accepted.
+pub struct Opening {
+    pub name: &'static str,
+    pub image: Vec<u8>,
+    rule: u8,
+    offset: usize,
+}
+
+impl Opening {
+    pub fn is_told(&self, rule: u8, offset: u16) -> bool {
+        rule == self.rule && usize::from(offset) == self.offset
+    }
+}
+
+/// The full phone; the same with the signers last, where they are looked for longest; and damaged in eight ways: each breaks
+/// one rule, and in the last record that can break it, so that all of that rule and of those before it has to be asked.
+pub fn openings(slots: usize) -> Vec<Opening> {
+    let frame = Frame::of(slots);
+    let last = slots - 3;
+    let broken = |name, rule, offset, damage: &dyn Fn(&mut Vec<u8>)| {
+        let mut image = image(0, slots);
+        damage(&mut image);
+        Opening { name, image, rule, offset }
+    };
+    vec![
+        broken("open", 0, 0, &|_| ()),
+        broken("open-signers-last", 0, 0, &|image| sign_by_the_last(image, &frame)),
+        broken("open-breaks-1", 1, 36, &|image| image.push(0)),
+        // A free slot that is not all zero.
+        broken("open-breaks-2", 2, frame.certificate(slots - 1), &|image| {
+            image[frame.certificate(slots - 1) + 23] = 1;
+        }),
+        // The number of the card before.
+        broken("open-breaks-3", 3, frame.card(7), &|image| image[frame.card(7) + 1] = 7),
+        // The id of the record before.
+        broken("open-breaks-4", 4, frame.certificate(last), &|image| {
+            let before = frame.certificate(last - 1);
+            image.copy_within(before..before + 2, frame.certificate(last));
+        }),
+        // A second valid operator root on the card that is present.
+        broken("open-breaks-5", 5, frame.certificate(last), &|image| {
+            let at = frame.certificate(last);
+            image[at + 2..at + 8].copy_from_slice(&[0, 1, 0, 1, 1, 1]);
+            image[at + 12..at + 16].fill(0);
+        }),
+        broken("open-breaks-6", 6, frame.row(ACTIONS - 1), &|image| {
+            image[frame.row(ACTIONS - 1) + 3] = 3;
+        }),
+        // The id of the record before.
+        broken("open-breaks-7", 7, frame.executable(last), &|image| {
+            let before = frame.executable(last - 1);
+            image.copy_within(before..before + 2, frame.executable(last));
+        }),
+        // A key that nobody holds.
+        broken("open-breaks-8", 8, frame.executable(last), &|image| {
+            let at = frame.executable(last);
+            image[at + 2] = 3;
+            image[at + 4..at + 8].copy_from_slice(&60_000u32.to_be_bytes());
+        }),
+    ]
+}
+
+/// Every trusted executable is signed by the last record of its domain.
+fn sign_by_the_last(image: &mut [u8], frame: &Frame) {
+    for slot in 0..frame.slots {
+        let at = frame.executable(slot);
+        let domain = image[at + 2];
+        let is_of_domain = |signer: &usize| image[frame.certificate(*signer) + 5] == domain;
+        if let (true, Some(signer)) = (domain != 0, (0..frame.slots).rev().find(is_of_domain)) {
+            let key = frame.certificate(signer) + 8;
+            image.copy_within(key..key + 4, at + 4);
+        }
+    }
+}
+
+/// Numbers as if by chance, the same in every run.
+pub struct Dice(pub u64);
+
+impl Dice {
+    fn below(&mut self, end: usize) -> usize {
+        self.0 ^= self.0 << 13;
+        self.0 ^= self.0 >> 7;
+        self.0 ^= self.0 << 17;
+        (self.0 >> 16) as usize % end
+    }
+}
+
+/// The fields of each record, by their first bytes and with the record's size at the end.
+const FIELDS: [&[usize]; 4] = [&[0, 2, 4, 5, 6, 7, 8, 12, 16, 20, 24], &[0, 2, 4, 8], &[0, 2, 3, 4, 8, 12], &[0, 1, 2, 3, 4]];
+
+/// An image damaged in one to three places: a byte changed, a record or a field of it written over another, or the end moved.
+pub fn damaged(which: usize, slots: usize, dice: &mut Dice) -> Vec<u8> {
+    let frame = Frame::of(slots);
+    let mut image = image(which, slots);
+    for _ in 0..1 + dice.below(3) {
+        match dice.below(16) {
+            0 => image.truncate(dice.below(image.len() + 1)),
+            1 => image.push(dice.below(2) as u8),
+            2 => poke(&mut image, dice.below(40), dice.below(4) as u8),
+            3 => poke(&mut image, dice.below(frame.total), dice.below(256) as u8),
+            4..=6 => poke(&mut image, dice.below(frame.total), dice.below(4) as u8),
+            7 => copy_root(&mut image, &frame, dice),
+            way => {
+                let table = [0, 0, 0, 0, 1, 2, 2, 3][way - 8];
+                copy_field(&mut image, &frame, table, dice);
+            }
+        }
+    }
+    image
+}
+
+fn poke(image: &mut [u8], at: usize, byte: u8) {
+    if let Some(place) = image.get_mut(at) {
+        *place = byte;
+    }
+}
+
+/// Turns a certificate into one of the first four slots, where the roots of the full phone stand, but for its id and key.
+fn copy_root(image: &mut [u8], frame: &Frame, dice: &mut Dice) {
+    let from = frame.certificate(dice.below(4));
+    let to = frame.certificate(dice.below(frame.slots));
+    if frame.cards_at <= image.len() {
+        image.copy_within(from + 2..from + 8, to + 2);
+        image.copy_within(from + 12..from + 24, to + 12);
+    }
+}
+
+/// Writes a field of one record, or all of it, over that of another of the same table.
+fn copy_field(image: &mut [u8], frame: &Frame, table: usize, dice: &mut Dice) {
+    let (start, count) = [
+        (40, frame.slots),
+        (frame.cards_at, CARDS as usize),
+        (frame.executables_at, frame.slots),
+        (frame.table_at, ACTIONS),
+    ][table];
+    let fields = FIELDS[table];
+    let size = fields[fields.len() - 1];
+    let (from, to) = (start + size * dice.below(count), start + size * dice.below(count));
+    let field = dice.below(fields.len());
+    let (first, end) = if field + 1 < fields.len() { (fields[field], fields[field + 1]) } else { (0, size) };
+    if from.max(to) + size <= image.len() {
+        image.copy_within(from + first..from + end, to + first);
+    }
 }

@@ -140,37 +140,74 @@ type Outcome = Result<(u8, u8), u8>;
 
 const DONE: Outcome = Ok((0, 0));
 
-/// 0 where the image is accepted, 1 where it breaks a rule I1..I8. Any bytes.
-pub fn open(image: &[u8]) -> u8 {
-    if is_accepted(image) {
-        0
-    } else {
-        BAD_IMAGE
+/// What an event is told, and what opening an image tells; all 0 where it is accepted.
+#[derive(Clone, Copy, Debug, PartialEq)]
+pub struct Answer {
+    pub code: u8,
+    pub domain: u8,
+    pub links: u8,
+    /// The first broken rule, 1 to 8, and the first byte of what breaks it; 0 but for code 1.
+    pub rule: u8,
+    pub offset: u16,
+}
+
+pub const ANSWER_SIZE: usize = 6;
+
+impl Answer {
+    /// What an image that is accepted tells of an event.
+    #[inline]
+    fn to_event(code: u8, domain: u8, links: u8) -> Answer {
+        Answer {
+            code,
+            domain,
+            links,
+            rule: 0,
+            offset: 0,
+        }
     }
 }
 
-/// Code, domain and links of one event of any length; the image changes only where the code is 0.
+/// Code 0 where the image is accepted; else 1, the first rule of I1..I8 that it breaks, and where.
+/// Any bytes.
+pub fn open(image: &[u8]) -> Answer {
+    match check(image) {
+        Ok(()) => Answer::to_event(0, 0, 0),
+        Err(fault) => Answer {
+            code: BAD_IMAGE,
+            domain: 0,
+            links: 0,
+            rule: fault.rule,
+            offset: fault.offset,
+        },
+    }
+}
+
+/// The answer to one event of any length; the image changes only where the code is 0.
 /// The image has to be one that `open` accepts.
-pub fn step(image: &mut [u8], event: &[u8]) -> (u8, u8, u8) {
-    Phone::over(image).answer(event)
+pub fn step(image: &mut [u8], event: &[u8]) -> Answer {
+    let (code, domain, links) = Phone::over(image).answer(event);
+    Answer::to_event(code, domain, links)
 }
 
 /// Opens the image once and steps through events of 24 bytes, the last of which may be short.
-/// Writes three bytes for each event, stops where `answers` is full, returns the number answered.
-/// On an image that is not accepted every event is answered 1, 0, 0 and nothing changes.
+/// Writes six bytes for each event, stops where `answers` is full, returns the number answered.
+/// On an image that is not accepted every event is answered as `open` does and nothing changes.
 pub fn run(image: &mut [u8], events: &[u8], answers: &mut [u8]) -> usize {
-    let pairs = events.chunks(event::SIZE).zip(answers.chunks_exact_mut(3));
+    let pairs = events
+        .chunks(event::SIZE)
+        .zip(answers.chunks_exact_mut(ANSWER_SIZE));
     let count = pairs.len();
-    if !is_accepted(image) {
+    if let Err(fault) = check(image) {
+        let [high, low] = fault.offset.to_be_bytes();
         for (_, answer) in pairs {
-            answer.copy_from_slice(&[BAD_IMAGE, 0, 0]);
+            answer.copy_from_slice(&[BAD_IMAGE, 0, 0, fault.rule, high, low]);
         }
         return count;
     }
     let mut phone = Phone::over(image);
     for (event, answer) in pairs {
         let (code, domain, links) = phone.answer(event);
-        answer.copy_from_slice(&[code, domain, links]);
+        answer.copy_from_slice(&[code, domain, links, 0, 0, 0]);
     }
     count
 }
@@ -392,10 +429,29 @@ impl GoodKeys {
 // ---------------------------------------------------------------------------------------------
 // Image rules
 
-/// I1 to I8. Which rule is broken is never told, so the tests need not keep the order of the rules.
-fn is_accepted(image: &[u8]) -> bool {
+/// A broken rule and the first byte of what breaks it. The lowest rule counts, and of its faults
+/// the one at the lowest offset: I3 names the card present, then certificates, then cards.
+#[derive(Clone, Copy, PartialEq, PartialOrd)]
+struct Fault {
+    rule: u8,
+    offset: u16,
+}
+
+impl Fault {
+    /// Offsets are of bytes of an image whose header holds, or in its header: a u16 has room.
+    #[inline]
+    fn at(rule: u8, offset: usize) -> Fault {
+        Fault {
+            rule,
+            offset: offset as u16,
+        }
+    }
+}
+
+/// I1 to I8, and the first of them that is broken.
+fn check(image: &[u8]) -> Result<(), Fault> {
     if image.len() < header::SIZE {
-        return false;
+        return Err(Fault::at(1, image.len()));
     }
     let (header, rest) = image.split_at(header::SIZE);
     let certificate_slots = usize::from(u16_at(header, header::CERTIFICATES));
@@ -407,75 +463,113 @@ fn is_accepted(image: &[u8]) -> bool {
     let table_at = executables_at + executable_slots * executable::SIZE;
     let total = table_at + action_count * action::SIZE;
     let offset_is = |at, offset| u32_at(header, at) as usize == offset;
-    let header_holds = u16_at(header, header::VERSION) == 1
-        && certificate_slots <= certificate::MOST
-        && card_count <= card::MOST
-        && executable_slots <= executable::MOST
-        && (1..=action::MOST).contains(&action_count)
-        && u16_at(header, header::MODE) <= u16::from(ENABLE_LISTED)
-        && u16_at(header, header::ZERO) == 0
-        && offset_is(header::CERTIFICATES_AT, header::SIZE)
-        && offset_is(header::CARDS_AT, cards_at)
-        && offset_is(header::EXECUTABLES_AT, executables_at)
-        && offset_is(header::TABLE_AT, table_at)
-        && offset_is(header::TOTAL, total)
-        && image.len() == total;
-    if !header_holds {
-        return false;
+    let wrong_field = if u16_at(header, header::VERSION) != 1 {
+        Some(header::VERSION)
+    } else if certificate_slots > certificate::MOST {
+        Some(header::CERTIFICATES)
+    } else if card_count > card::MOST {
+        Some(header::CARDS)
+    } else if executable_slots > executable::MOST {
+        Some(header::EXECUTABLES)
+    } else if !(1..=action::MOST).contains(&action_count) {
+        Some(header::ACTIONS)
+    } else if u16_at(header, header::MODE) > u16::from(ENABLE_LISTED) {
+        Some(header::MODE)
+    } else if u16_at(header, header::ZERO) != 0 {
+        Some(header::ZERO)
+    } else if !offset_is(header::CERTIFICATES_AT, header::SIZE) {
+        Some(header::CERTIFICATES_AT)
+    } else if !offset_is(header::CARDS_AT, cards_at) {
+        Some(header::CARDS_AT)
+    } else if !offset_is(header::EXECUTABLES_AT, executables_at) {
+        Some(header::EXECUTABLES_AT)
+    } else if !offset_is(header::TABLE_AT, table_at) {
+        Some(header::TABLE_AT)
+    } else if !offset_is(header::TOTAL, total) || image.len() != total {
+        Some(header::TOTAL)
+    } else {
+        None
+    };
+    if let Some(at) = wrong_field {
+        return Err(Fault::at(1, at));
     }
     let (certificates, rest) = rest.split_at(cards_at - header::SIZE);
     let (cards, rest) = rest.split_at(executables_at - cards_at);
     let (executables, table) = rest.split_at(table_at - executables_at);
     let now = Now::of(header);
-    cards_hold(cards, now.card)
-        && certificates_hold(certificates, cards, now.card)
-        && table_holds(table)
-        && executables_hold(executables, action_count)
-        && domains_hold(executables, certificates, now)
+    check_certificates(certificates, cards, now.card)?;
+    if let Some(row) = first_bad_row(table) {
+        return Err(Fault::at(6, table_at + row * action::SIZE));
+    }
+    if let Some(slot) = first_bad_executable(executables, action_count) {
+        return Err(Fault::at(7, executables_at + slot * executable::SIZE));
+    }
+    if let Some(slot) = first_without_chain(executables, certificates, now) {
+        return Err(Fault::at(8, executables_at + slot * executable::SIZE));
+    }
+    Ok(())
 }
 
-fn cards_hold(cards: &[u8], present: u16) -> bool {
-    let distinct = cards
+/// What I3 says of the cards alone.
+fn first_bad_card(cards: &[u8]) -> Option<usize> {
+    cards
         .chunks_exact(card::SIZE)
         .enumerate()
-        .all(|(index, card)| {
+        .position(|(index, card)| {
             let number = u16_at(card, card::NUMBER);
-            number != 0 && u16_at(card, card::ZERO) == 0 && card_index(cards, number) == Some(index)
-        });
-    distinct && (present == 0 || card_index(cards, present).is_some())
+            number == 0 || u16_at(card, card::ZERO) != 0 || card_index(cards, number) != Some(index)
+        })
 }
 
-/// Rules I2 and I4 and what I3 and I5 say of certificates, in one pass.
-fn certificates_hold(certificates: &[u8], cards: &[u8], present: u16) -> bool {
+/// Rules I2 to I5. One pass over the certificates meets their faults slot by slot and not rule by
+/// rule, so it keeps the one that counts and goes on; only I2 has no rule before it to wait for.
+fn check_certificates(certificates: &[u8], cards: &[u8], present: u16) -> Result<(), Fault> {
+    let mut found: Option<Fault> = None;
+    let mut note = |fault| {
+        if found.map_or(true, |earlier| fault < earlier) {
+            found = Some(fault);
+        }
+    };
+    if let Some(index) = first_bad_card(cards) {
+        let cards_at = header::SIZE + certificates.len();
+        note(Fault::at(3, cards_at + index * card::SIZE));
+    }
+    let present_index = card_index(cards, present);
+    if present != 0 && present_index.is_none() {
+        note(Fault::at(3, header::CARD));
+    }
+    let operator_on = |index| u32_at(cards, index * card::SIZE + card::OPERATOR);
+
     // Ids and keys side by side, since every record is compared with all before it.
     let mut ids = [0; certificate::MOST];
     let mut keys = [0; certificate::MOST];
     let mut domains = [0; certificate::MOST];
     let mut count = 0;
     let mut valid_on_card = [false; card::MOST];
-    let mut valid_on_phone = None;
+    let mut valid_on_phone = false;
     let mut valid_manufacturer = false;
 
-    for record in certificates_in(certificates) {
+    for (slot, record) in certificates_in(certificates).enumerate() {
+        let at = header::SIZE + slot * certificate::SIZE;
         let id = u16_at(record, certificate::ID);
         if id == 0 {
             if *record != [0; certificate::SIZE] {
-                return false;
+                return Err(Fault::at(2, at));
             }
             continue;
         }
         if !fields_hold(record) {
-            return false;
+            return Err(Fault::at(2, at));
         }
         let key = u32_at(record, certificate::KEY);
         let domain = record[certificate::DOMAIN];
         if ids[..count].contains(&id) {
-            return false;
+            note(Fault::at(4, at));
         }
         // One earlier record with the key is enough to look at: the earlier ones agree already.
         if let Some(earlier) = keys[..count].iter().position(|&earlier| earlier == key) {
             if domains[earlier] != domain {
-                return false;
+                note(Fault::at(4, at));
             }
         }
         ids[count] = id;
@@ -488,35 +582,40 @@ fn certificates_hold(certificates: &[u8], cards: &[u8], present: u16) -> bool {
         let owner = u32_at(record, certificate::OWNER);
         match u16_at(record, certificate::PLACE) {
             0 => {
-                if is_valid && domain == OPERATOR && valid_on_phone.replace(owner).is_some() {
-                    return false;
-                }
-            }
-            place => {
-                let index = match card_index(cards, place) {
-                    Some(index) => index,
-                    None => return false,
-                };
-                if is_root && domain == OPERATOR {
-                    if owner != u32_at(cards, index * card::SIZE + card::OPERATOR) {
-                        return false;
-                    }
-                    if is_valid && std::mem::replace(&mut valid_on_card[index], true) {
-                        return false;
+                if is_valid && domain == OPERATOR {
+                    let is_second = std::mem::replace(&mut valid_on_phone, true);
+                    let has_rival = present_index.map_or(false, |card| {
+                        valid_on_card[card] || owner != operator_on(card)
+                    });
+                    if is_second || has_rival {
+                        note(Fault::at(5, at));
                     }
                 }
             }
+            place => match card_index(cards, place) {
+                None => note(Fault::at(3, at)),
+                Some(card) => {
+                    if is_root && domain == OPERATOR {
+                        if owner != operator_on(card) {
+                            note(Fault::at(4, at));
+                        }
+                        if is_valid {
+                            let is_second = std::mem::replace(&mut valid_on_card[card], true);
+                            if is_second || valid_on_phone && present_index == Some(card) {
+                                note(Fault::at(5, at));
+                            }
+                        }
+                    }
+                }
+            },
         }
         if is_valid && domain == MANUFACTURER && std::mem::replace(&mut valid_manufacturer, true) {
-            return false;
+            note(Fault::at(5, at));
         }
     }
-
-    match (valid_on_phone, card_index(cards, present)) {
-        (Some(owner), Some(index)) => {
-            !valid_on_card[index] && owner == u32_at(cards, index * card::SIZE + card::OPERATOR)
-        }
-        _ => true,
+    match found {
+        Some(fault) => Err(fault),
+        None => Ok(()),
     }
 }
 
@@ -542,20 +641,20 @@ fn fields_hold(record: &[u8]) -> bool {
         && u32_at(record, certificate::KEY) != 0
 }
 
-fn table_holds(table: &[u8]) -> bool {
+fn first_bad_row(table: &[u8]) -> Option<usize> {
     table
         .chunks_exact(action::SIZE)
-        .all(|bytes| bytes.iter().all(|&byte| bytes[0] <= byte && byte <= 2))
+        .position(|bytes| bytes.iter().any(|&byte| bytes[0] > byte || byte > 2))
 }
 
-fn executables_hold(executables: &[u8], action_count: usize) -> bool {
+fn first_bad_executable(executables: &[u8], action_count: usize) -> Option<usize> {
     let mut ids = [0; executable::MOST];
     let mut count = 0;
-    for record in executables_in(executables) {
+    for (slot, record) in executables_in(executables).enumerate() {
         let id = u16_at(record, executable::ID);
         if id == 0 {
             if *record != [0; executable::SIZE] {
-                return false;
+                return Some(slot);
             }
             continue;
         }
@@ -566,22 +665,22 @@ fn executables_hold(executables: &[u8], action_count: usize) -> bool {
             || forbidden != 0
             || ids[..count].contains(&id)
         {
-            return false;
+            return Some(slot);
         }
         ids[count] = id;
         count += 1;
     }
-    true
+    None
 }
 
-fn domains_hold(executables: &[u8], certificates: &[u8], now: Now) -> bool {
+fn first_without_chain(executables: &[u8], certificates: &[u8], now: Now) -> Option<usize> {
     if has_no_domains(executables) {
-        return true;
+        return None;
     }
     let good = GoodKeys::find(certificates, now);
-    executables_in(executables).all(|record| {
+    executables_in(executables).position(|record| {
         let domain = record[executable::DOMAIN];
-        domain == 0 || good.contains(domain, u32_at(record, executable::KEY))
+        domain != 0 && !good.contains(domain, u32_at(record, executable::KEY))
     })
 }
 

@@ -1,20 +1,19 @@
 //! One run of `bench`: a stream of bytes in, lines of text out.
 //!
-//! Follows 01, "One run of `bench`, whole".
+//! Follows 01, "One run of `bench`, whole", and 02 for what stands behind `image 1`.
 
 use crate::events::{step, Answer, Event};
-use crate::image_rules::{first_broken, i1_header, Broken};
 use crate::phone::{Header, Phone, LARGEST_IMAGE};
+use crate::refusal::{open, Refusal};
 
 pub const FIRST_LINE: &str = "event kind code domain links\n";
-pub const REFUSED_LINE: &str = "image 1\n";
 
 /// What one run gives.
 pub struct Run {
     /// What `bench` prints.
     pub text: String,
-    /// The image after the last event, or the rule that the image broke.
-    pub image: Result<Vec<u8>, Broken>,
+    /// The image after the last event, or why and where the image is refused.
+    pub image: Result<Vec<u8>, Refusal>,
 }
 
 /// Where the image ends in a stream: the total of its header, if that is a length to read.
@@ -31,15 +30,6 @@ pub fn split_stream(stream: &[u8]) -> (&[u8], &[u8]) {
     stream.split_at(end.min(stream.len()))
 }
 
-/// The first rule that the image at the head of a stream breaks.
-pub fn broken_rule(stream: &[u8]) -> Option<Broken> {
-    if image_length(stream).is_none() {
-        // There is nothing to cut off: the header itself is missing or names no length to read.
-        return i1_header(stream).map(|way| Broken { rule: 1, way });
-    }
-    first_broken(split_stream(stream).0)
-}
-
 /// Splits the bytes behind the image into events; the last one may be short.
 pub fn event_records(events: &[u8]) -> impl Iterator<Item = &[u8]> {
     events.chunks(Event::SIZE)
@@ -53,20 +43,13 @@ pub fn run(stream: &[u8]) -> Run {
 pub fn run_and_watch(stream: &[u8], mut watch: impl FnMut(&Phone, &[u8], Answer, &Phone)) -> Run {
     let (image, events) = split_stream(stream);
     let mut text = String::from(FIRST_LINE);
-    let opened = match broken_rule(stream) {
-        Some(broken) => Err(broken),
-        None => Phone::decode(image).ok_or(Broken {
-            rule: 1,
-            way: "total is not table's end",
-        }),
-    };
-    let mut phone = match opened {
+    let mut phone = match open(image) {
         Ok(phone) => phone,
-        Err(broken) => {
-            text.push_str(REFUSED_LINE);
+        Err(refusal) => {
+            text.push_str(&refused_line(&refusal));
             return Run {
                 text,
-                image: Err(broken),
+                image: Err(refusal),
             };
         }
     };
@@ -80,6 +63,11 @@ pub fn run_and_watch(stream: &[u8], mut watch: impl FnMut(&Phone, &[u8], Answer,
         text,
         image: Ok(phone.encode()),
     }
+}
+
+/// The printed line of an image that answers 1: the rule and the offset stand behind the code.
+fn refused_line(refusal: &Refusal) -> String {
+    format!("image 1 {} {}\n", refusal.broken.rule, refusal.offset)
 }
 
 /// The printed line of one event. The kind is the first byte as it is.

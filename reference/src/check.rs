@@ -11,6 +11,7 @@ use crate::bench::{run_and_watch, split_stream, Run};
 use crate::events::{Answer, REQUEST, VERIFY};
 use crate::image_rules::{first_broken, Broken};
 use crate::phone::Phone;
+use crate::refusal::Refusal;
 use crate::text::{to_bytes, to_text};
 
 /// The row of the kind table for kinds that do not exist.
@@ -23,6 +24,8 @@ pub struct Counts {
     pub runs: u64,
     pub accepted: u64,
     pub refused: BTreeMap<Broken, u64>,
+    /// Of refused images, how often which rule was broken at which byte.
+    pub places: BTreeMap<(u8, usize), u64>,
     pub events: u64,
     by_kind_and_code: [[u64; CODES]; OTHER_KIND + 1],
     verified: [[u64; 5]; 4],
@@ -30,6 +33,12 @@ pub struct Counts {
 }
 
 impl Counts {
+    fn add_refusal(&mut self, refusal: &Refusal) {
+        let place = (refusal.broken.rule, refusal.offset);
+        *self.refused.entry(refusal.broken).or_default() += 1;
+        *self.places.entry(place).or_default() += 1;
+    }
+
     fn add_event(&mut self, record: &[u8], answer: Answer) {
         self.events += 1;
         let kind = match record.first() {
@@ -64,6 +73,9 @@ impl Counts {
         for (broken, count) in &other.refused {
             *self.refused.entry(*broken).or_default() += count;
         }
+        for (place, count) in &other.places {
+            *self.places.entry(*place).or_default() += count;
+        }
         add_table(&mut self.by_kind_and_code, &other.by_kind_and_code);
         add_table(&mut self.verified, &other.verified);
         add_table(&mut self.granted, &other.granted);
@@ -80,6 +92,7 @@ impl Counts {
         for (broken, count) in &self.refused {
             let _ = writeln!(out, "{count:>8}  {broken}");
         }
+        self.report_rules(&mut out);
         let _ = writeln!(out, "events {}", self.events);
         self.report_kinds(&mut out);
         report_chains(&mut out, "verify, code 0", &self.verified);
@@ -101,6 +114,24 @@ impl Counts {
         out.push_str("granted: domain links times\n");
         list_counts(&mut out, &self.granted);
         out
+    }
+
+    fn report_rules(&self, out: &mut String) {
+        let _ = writeln!(out, "\nrule  images  offsets");
+        for rule in 1..=8 {
+            let (images, offsets) = self.of_rule(rule);
+            let _ = writeln!(out, "{:>4} {images:>7} {offsets:>8}", format!("I{rule}"));
+        }
+        let _ = writeln!(out);
+    }
+
+    /// How many images broke a rule first, and at how many different bytes.
+    pub fn of_rule(&self, rule: u8) -> (u64, usize) {
+        let of_rule = self.places.iter().filter(|((other, _), _)| *other == rule);
+        (
+            of_rule.clone().map(|(_, count)| count).sum(),
+            of_rule.count(),
+        )
     }
 
     fn report_kinds(&self, out: &mut String) {
@@ -174,7 +205,7 @@ pub fn checked_run(stream: &[u8], counts: &mut Counts) -> Result<Run, String> {
             counts.accepted += 1;
             check_encoding(split_stream(stream).0)?;
         }
-        Err(broken) => *counts.refused.entry(*broken).or_default() += 1,
+        Err(refusal) => counts.add_refusal(refusal),
     }
     match complaint {
         Some(complaint) => Err(complaint),

@@ -1,14 +1,14 @@
 //! Events: the record, the codes 2 to 16 as one ordered list of tests, and the effects.
 //!
-//! Follows 01, "Events" and "What an event is told". Each test says when its code applies;
+//! Follows 01, "Events" and "What an event is told", and 02 for what goes with code 1. Each test says when its code applies;
 //! the answer is the lowest that applies. A test whose record is missing does not apply.
 
 use crate::chain::Trust;
-use crate::image_rules::first_broken;
 use crate::phone::{
     permission_bit, u16_at, u32_at, Certificate, Executable, Phone, DISABLE_ALL, ENABLE_ALL,
     ENABLE_LISTED, ISSUED, MANUFACTURER, OPERATOR, ROOT, THIRD_PARTY,
 };
+use crate::refusal::{open, Refusal};
 
 pub const CLOCK: u8 = 1;
 pub const CARD_IN: u8 = 2;
@@ -41,22 +41,36 @@ pub struct Answer {
     pub code: u8,
     pub domain: u8,
     pub links: u8,
+    /// The first broken rule of a refused image; 0 for every other code than 1.
+    pub rule: u8,
+    /// Where the image breaks that rule; 0 for every other code than 1.
+    pub offset: usize,
 }
 
 impl Answer {
-    fn refused(code: u8) -> Answer {
-        Answer {
-            code,
-            domain: 0,
-            links: 0,
-        }
-    }
-
     const DONE: Answer = Answer {
         code: 0,
         domain: 0,
         links: 0,
+        rule: 0,
+        offset: 0,
     };
+
+    fn refused(code: u8) -> Answer {
+        Answer {
+            code,
+            ..Answer::DONE
+        }
+    }
+
+    fn of_bad_image(refusal: &Refusal) -> Answer {
+        Answer {
+            code: 1,
+            rule: refusal.broken.rule,
+            offset: refusal.offset,
+            ..Answer::DONE
+        }
+    }
 }
 
 /// One event record of 24 bytes.
@@ -137,11 +151,9 @@ impl Event {
 
 /// One event on an image. Code 1 wins over everything; other refusals leave the image alone.
 pub fn step_image(image: &mut Vec<u8>, event: &[u8]) -> Answer {
-    if first_broken(image).is_some() {
-        return Answer::refused(1);
-    }
-    let Some(mut phone) = Phone::decode(image) else {
-        return Answer::refused(1);
+    let mut phone = match open(image) {
+        Ok(phone) => phone,
+        Err(refusal) => return Answer::of_bad_image(&refusal),
     };
     let answer = step(&mut phone, event);
     *image = phone.encode();
@@ -635,11 +647,11 @@ fn tell(phone: &Phone, event: &Event) -> Answer {
         return Answer::DONE;
     };
     Answer {
-        code: 0,
         domain: record.domain,
         links: match record.domain {
             0 => 0,
             domain => Trust::of(phone).links_to(record.signing_key, domain),
         },
+        ..Answer::DONE
     }
 }

@@ -11,7 +11,7 @@ use std::sync::Mutex;
 use std::time::{Duration, Instant};
 
 use crate::check::{checked_run, Counts};
-use crate::generate::case;
+use crate::generate::{case_of, Mix};
 
 /// When to stop where no difference is found.
 #[derive(Clone, Copy, Debug)]
@@ -21,6 +21,7 @@ pub enum Until {
 }
 
 pub struct Plan {
+    pub mix: Mix,
     pub seed: u64,
     pub until: Until,
     pub workers: usize,
@@ -140,7 +141,7 @@ fn work(shared: &Shared) {
 }
 
 fn run_case(plan: &Plan, number: u64, counts: &mut Counts) -> Result<Option<Difference>, String> {
-    let case = case(plan.seed, number);
+    let case = case_of(plan.mix, plan.seed, number);
     let difference = |message: String, want: String, got: Vec<u8>| Difference {
         case: number,
         description: case.description.clone(),
@@ -231,7 +232,7 @@ fn quoted(line: &str) -> String {
     format!("`{}`{more}", start.escape_debug())
 }
 
-/// Line 0 is the heading; line n is event n, or `image 1`.
+/// Line 0 is the heading; line n is event n, or line 1 is that of a refused image.
 fn place_of(line: usize) -> String {
     match line {
         0 => "first line".to_string(),
@@ -263,7 +264,11 @@ fn line_difference(at: usize, want: &str, got: &str) -> String {
 
 /// The three files of a kept case, without their endings.
 pub fn kept_name(plan: &Plan, case: u64) -> PathBuf {
-    plan.keep.join(format!("fuzz-{}-{}", plan.seed, case))
+    let name = match plan.mix {
+        Mix::All => "fuzz",
+        Mix::Damaged => "damaged",
+    };
+    plan.keep.join(format!("{name}-{}-{case}", plan.seed))
 }
 
 fn keep(plan: &Plan, difference: &Difference) -> Result<(), String> {

@@ -6,6 +6,7 @@
 pub mod damage;
 pub mod events;
 pub mod images;
+pub mod mixed_damage;
 
 use crate::bench::{self, event_records, split_stream};
 use crate::events::{step, Event};
@@ -18,6 +19,23 @@ use images::{accepted_phone, chain_phone, Shape};
 pub struct Case {
     pub description: String,
     pub stream: Vec<u8>,
+}
+
+/// Which cases are made.
+#[derive(Clone, Copy, Debug, PartialEq, Eq)]
+pub enum Mix {
+    /// Accepted and damaged images, with events.
+    All,
+    /// Damaged images mostly, some of them still accepted, with few events.
+    Damaged,
+}
+
+/// Case `number` of `seed` in a mix.
+pub fn case_of(mix: Mix, seed: u64, number: u64) -> Case {
+    match mix {
+        Mix::All => case(seed, number),
+        Mix::Damaged => mixed_damage::case(seed, number),
+    }
 }
 
 /// The mix goes round in turns of so many cases.
@@ -289,7 +307,7 @@ pub fn longer(seed: u64, stream: &[u8], count: usize) -> Result<Vec<u8>, String>
     }
     let image = bench::run(stream)
         .image
-        .map_err(|broken| format!("the image breaks {broken}"))?;
+        .map_err(|refusal| format!("the image breaks {refusal}"))?;
     let mut phone = Phone::decode(&image).ok_or("the image cannot be decoded")?;
     let random = &mut Random::of_case(seed, 0);
     let mut longer = stream.to_vec();

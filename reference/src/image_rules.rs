@@ -24,20 +24,15 @@ impl std::fmt::Display for Broken {
 }
 
 type Way = Option<&'static str>;
-type PartsRule = fn(&Phone) -> Way;
+pub type PartsRule = fn(&Phone) -> Way;
 
 /// The first rule that the buffer breaks; nothing where the image is accepted.
 pub fn first_broken(bytes: &[u8]) -> Option<Broken> {
-    if let Some(way) = i1_header(bytes) {
+    if let Some(Fault { way, .. }) = i1_header(bytes) {
         return Some(Broken { rule: 1, way });
     }
-    match Phone::decode(bytes) {
-        Some(phone) => first_broken_of_parts(&phone),
-        None => Some(Broken {
-            rule: 1,
-            way: "total is not table's end",
-        }),
-    }
+    // Where I1 holds, the length is the one that the counts ask for.
+    first_broken_of_parts(&Phone::decode(bytes)?)
 }
 
 /// The first of I2 to I8 that the parts break.
@@ -56,77 +51,73 @@ pub fn first_broken_of_parts(phone: &Phone) -> Option<Broken> {
         .find_map(|&(rule, broken)| broken(phone).map(|way| Broken { rule, way }))
 }
 
-pub fn i1_header(bytes: &[u8]) -> Way {
+/// Where in a buffer a rule is broken, and in which way it is broken there.
+#[derive(Clone, Copy, Debug, PartialEq, Eq)]
+pub struct Fault {
+    pub at: usize,
+    pub way: &'static str,
+}
+
+/// The first wrong field of a buffer's header, in the order of 01's sentence.
+pub fn i1_header(bytes: &[u8]) -> Option<Fault> {
     let Some(header) = Header::decode(bytes) else {
-        return Some("stream shorter than header");
+        return Some(Fault {
+            at: bytes.len(),
+            way: "stream shorter than header",
+        });
     };
+    i1_fields(&header, bytes.len())
+        .into_iter()
+        .find(|(_, _, is_wrong)| *is_wrong)
+        .map(|(at, way, _)| Fault { at, way })
+}
+
+/// Each field that I1 speaks of: its first byte, in which way it can be wrong, and whether it is.
+/// A count is at most 65,535 and a record at most 24 bytes, so nothing overflows.
+fn i1_fields(header: &Header, length: usize) -> [(usize, &'static str, bool); 15] {
+    let end_of = |start: usize, count: u16, size: usize| start + usize::from(count) * size;
+    let cards_at = end_of(Header::SIZE, header.certificate_slots, Certificate::SIZE);
+    let executables_at = end_of(cards_at, header.cards, Card::SIZE);
+    let table_at = end_of(executables_at, header.executable_slots, Executable::SIZE);
+    let table_end = end_of(table_at, header.actions, TABLE_ROW_SIZE);
+    let is_above = |count: u16, most: usize| usize::from(count) > most;
+    let differs = |field: u32, right: usize| field as usize != right;
     let total = header.total as usize;
-    if !(Header::SIZE..=LARGEST_IMAGE).contains(&total) {
-        return Some("total below 40 or above 2536");
-    }
-    if let Some(way) = i1_counts(&header) {
-        return Some(way);
-    }
-    if let Some(way) = i1_offsets(&header) {
-        return Some(way);
-    }
-    if bytes.len() < total {
-        return Some("buffer shorter than total");
-    }
-    if bytes.len() > total {
-        return Some("buffer longer than total");
-    }
-    None
-}
-
-fn i1_counts(header: &Header) -> Way {
-    if header.version != 1 {
-        return Some("version");
-    }
-    if usize::from(header.certificate_slots) > MOST_CERTIFICATES {
-        return Some("certificate slots");
-    }
-    if usize::from(header.cards) > MOST_CARDS {
-        return Some("cards");
-    }
-    if usize::from(header.executable_slots) > MOST_EXECUTABLES {
-        return Some("executable slots");
-    }
-    if header.actions == 0 || usize::from(header.actions) > MOST_ACTIONS {
-        return Some("actions");
-    }
-    if header.mode > 2 {
-        return Some("mode");
-    }
-    if header.zero != 0 {
-        return Some("zero");
-    }
-    None
-}
-
-/// The parts follow each other with no gap. The counts are small here, so nothing overflows.
-fn i1_offsets(header: &Header) -> Way {
-    let certificates_at = Header::SIZE as u32;
-    if header.certificates_at != certificates_at {
-        return Some("offset of certificates");
-    }
-    let cards_at = certificates_at + u32::from(header.certificate_slots) * Certificate::SIZE as u32;
-    if header.cards_at != cards_at {
-        return Some("offset of cards");
-    }
-    let executables_at = cards_at + u32::from(header.cards) * Card::SIZE as u32;
-    if header.executables_at != executables_at {
-        return Some("offset of executables");
-    }
-    let table_at = executables_at + u32::from(header.executable_slots) * Executable::SIZE as u32;
-    if header.table_at != table_at {
-        return Some("offset of table");
-    }
-    let table_end = table_at + u32::from(header.actions) * TABLE_ROW_SIZE as u32;
-    if header.total != table_end {
-        return Some("total is not table's end");
-    }
-    None
+    let total_is_no_length = !(Header::SIZE..=LARGEST_IMAGE).contains(&total);
+    let actions_are_wrong = header.actions == 0 || is_above(header.actions, MOST_ACTIONS);
+    [
+        (0, "version", header.version != 1),
+        (
+            2,
+            "certificate slots",
+            is_above(header.certificate_slots, MOST_CERTIFICATES),
+        ),
+        (4, "cards", is_above(header.cards, MOST_CARDS)),
+        (
+            6,
+            "executable slots",
+            is_above(header.executable_slots, MOST_EXECUTABLES),
+        ),
+        (8, "actions", actions_are_wrong),
+        (10, "mode", header.mode > 2),
+        (14, "zero", header.zero != 0),
+        (
+            20,
+            "offset of certificates",
+            differs(header.certificates_at, Header::SIZE),
+        ),
+        (24, "offset of cards", differs(header.cards_at, cards_at)),
+        (
+            28,
+            "offset of executables",
+            differs(header.executables_at, executables_at),
+        ),
+        (32, "offset of table", differs(header.table_at, table_at)),
+        (36, "total below 40 or above 2536", total_is_no_length),
+        (36, "total is not table's end", total != table_end),
+        (36, "buffer shorter than total", length < total),
+        (36, "buffer longer than total", length > total),
+    ]
 }
 
 pub fn i2_certificates(phone: &Phone) -> Way {
@@ -186,6 +177,12 @@ fn i2_issued(record: &Certificate) -> Way {
 }
 
 pub fn i3_cards(phone: &Phone) -> Way {
+    i3_card_table(phone)
+        .or_else(|| i3_card_present(phone))
+        .or_else(|| i3_places(phone))
+}
+
+pub fn i3_card_table(phone: &Phone) -> Way {
     for (at, card) in phone.cards.iter().enumerate() {
         if card.number == 0 {
             return Some("card number 0");
@@ -197,17 +194,23 @@ pub fn i3_cards(phone: &Phone) -> Way {
             return Some("card numbers not distinct");
         }
     }
-    if phone.card_present != 0 && phone.card(phone.card_present).is_none() {
-        return Some("card present not in table");
-    }
-    let place_is_known = |place: u16| place == 0 || phone.card(place).is_some();
-    if !phone
-        .occupied_certificates()
-        .all(|c| place_is_known(c.place))
-    {
-        return Some("place not in table");
-    }
     None
+}
+
+pub fn i3_card_present(phone: &Phone) -> Way {
+    let is_known = place_is_known(phone, phone.card_present);
+    (!is_known).then_some("card present not in table")
+}
+
+pub fn i3_places(phone: &Phone) -> Way {
+    let all_are_known = phone
+        .occupied_certificates()
+        .all(|c| place_is_known(phone, c.place));
+    (!all_are_known).then_some("place not in table")
+}
+
+fn place_is_known(phone: &Phone, place: u16) -> bool {
+    place == 0 || phone.card(place).is_some()
 }
 
 pub fn i4_ids_keys_owners(phone: &Phone) -> Way {

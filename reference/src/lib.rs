@@ -1,4 +1,5 @@
-//! A plain reference of the phone monitor, written from the specification ("01") alone.
+//! A plain reference of the phone monitor, written from the specification ("01") and the landed
+//! requests for changes ("02") alone.
 //!
 //! Nothing here is proved and nothing is shared with the proved side: the value of this
 //! crate is that it was written apart, so that a difference between the two means something.
@@ -12,5 +13,6 @@ pub mod generate;
 pub mod image_rules;
 pub mod phone;
 pub mod random;
+pub mod refusal;
 pub mod text;
 pub mod vectors;

@@ -3,17 +3,21 @@
 //! Exit status 0 is good, 1 a difference or a refused image, 2 bad usage or something that
 //! cannot be read or written.
 
+use std::collections::BTreeSet;
 use std::io::{Read, Write};
 use std::path::{Path, PathBuf};
 use std::process::ExitCode;
 use std::time::Duration;
 
-use reference::bench;
+use reference::bench::{self, Run};
 use reference::check::{checked_run, Counts};
 use reference::fuzz::{fuzz, kept_name, write_file, Plan, Until};
-use reference::generate::{case, longer};
+use reference::generate::{case_of, longer, Case, Mix};
+use reference::image_rules::{first_broken, Broken};
+use reference::phone::Header;
+use reference::refusal::open;
 use reference::text::{to_bytes, to_text};
-use reference::vectors::run_folder;
+use reference::vectors::{rewrite_answers, run_folder};
 
 const HELP: &str = "\
 An unproved reference of the phone monitor, for comparing.
@@ -27,16 +31,27 @@ usage: reference SUB-COMMAND
   bytes   text form on standard input -> the stream
   vectors DIR
           runs the cases of DIR and prints what the program `vectors` prints
+  answers DIR
+          runs the cases of DIR and writes each NAME.out anew that says something else; prints
+          where the stored ones differed; NAME.in and NAME.fin stay as they are
   longer  --seed S --events N
           stream on standard input -> the stream, N events more and an end that is no whole event
-  cases   --seed S --runs N --into DIR [--most-bytes B]
+  cases   --seed S --runs N --into DIR [--most-bytes B] [--damaged] [--fresh]
           writes N cases, of those with an image of at most B bytes: DIR/cases (a line for each), NAME.in, NAME.out and, where the
           image is accepted, NAME.fin; prints what they reach
-  fuzz    --seed S (--runs N | --seconds T) [--workers W] [--keep DIR] -- COMMAND ARGS...
+  fuzz    --seed S (--runs N | --seconds T) [--workers W] [--keep DIR] [--damaged] -- COMMAND ARGS...
           runs COMMAND on case after case and stops at the first difference
+
+  --damaged
+          images damaged in one way or several, for the rule and the offset behind `image 1`
+  --fresh of the first 20,000 cases only those refused in a way that no earlier one is refused
+          in, at no first record of a table, and one accepted; N is then the most to write
 
 exit status: 0 good, 1 a difference or a refused image, 2 bad usage or unreadable
 ";
+
+const DAMAGED: &str = "--damaged";
+const FRESH: &str = "--fresh";
 
 /// How a sub-command ends where it does not end well.
 enum Failure {
@@ -77,6 +92,7 @@ fn run(arguments: &[String]) -> Result<(), Failure> {
         "text" => plain(rest, |stream| print(to_text(stream).as_bytes())),
         "bytes" => plain(rest, run_bytes),
         "vectors" => run_vectors(rest),
+        "answers" => run_answers(rest),
         "longer" => run_longer(rest),
         "cases" => run_cases(rest),
         "fuzz" => run_fuzz(rest),
@@ -122,7 +138,7 @@ fn run_bench(stream: &[u8]) -> Result<(), Failure> {
 fn run_image(stream: &[u8]) -> Result<(), Failure> {
     match bench::run(stream).image {
         Ok(image) => print(&image),
-        Err(broken) => Err(Difference(format!("the image breaks {broken}"))),
+        Err(refusal) => Err(Difference(format!("the image breaks {refusal}"))),
     }
 }
 
@@ -133,31 +149,49 @@ fn run_bytes(text: &[u8]) -> Result<(), Failure> {
     print(&bytes)
 }
 
-/// The options of a sub-command, each a name with a value behind it.
+/// The options of a sub-command: names with a value behind them, and flags without one.
 struct Options<'a> {
     pairs: Vec<(&'a str, &'a str)>,
+    flags: Vec<&'a str>,
 }
 
 impl<'a> Options<'a> {
-    fn of(words: &'a [String], known: &[&str]) -> Result<Options<'a>, Failure> {
-        let mut pairs = Vec::new();
-        for pair in words.chunks(2) {
-            let name = pair[0].as_str();
-            if !known.contains(&name) {
-                let names = known.join(", ");
+    fn of(words: &'a [String], known: &[&str], flags: &[&str]) -> Result<Options<'a>, Failure> {
+        let mut options = Options {
+            pairs: Vec::new(),
+            flags: Vec::new(),
+        };
+        let mut words = words.iter().map(String::as_str);
+        while let Some(name) = words.next() {
+            if options.has(name) || options.find(name).is_some() {
+                return Err(bad_usage(&format!("{name} is given twice")));
+            }
+            if flags.contains(&name) {
+                options.flags.push(name);
+            } else if known.contains(&name) {
+                let Some(value) = words.next() else {
+                    return Err(bad_usage(&format!("{name} needs a value")));
+                };
+                options.pairs.push((name, value));
+            } else {
+                let names = [known, flags].concat().join(", ");
                 return Err(bad_usage(&format!(
                     "expected one of {names}, found `{name}`"
                 )));
             }
-            let Some(value) = pair.get(1) else {
-                return Err(bad_usage(&format!("{name} needs a value")));
-            };
-            if pairs.iter().any(|(other, _)| *other == name) {
-                return Err(bad_usage(&format!("{name} is given twice")));
-            }
-            pairs.push((name, value.as_str()));
         }
-        Ok(Options { pairs })
+        Ok(options)
+    }
+
+    fn has(&self, flag: &str) -> bool {
+        self.flags.contains(&flag)
+    }
+
+    fn mix(&self) -> Mix {
+        match self.has(DAMAGED) {
+            true => Mix::Damaged,
+            false => Mix::All,
+        }
     }
 
     fn find(&self, name: &str) -> Option<&'a str> {
@@ -183,11 +217,20 @@ impl<'a> Options<'a> {
     }
 }
 
+fn only_folder(words: &[String]) -> Result<&Path, Failure> {
+    match words {
+        [folder] => Ok(Path::new(folder)),
+        _ => Err(bad_usage("one folder is needed")),
+    }
+}
+
+fn run_answers(words: &[String]) -> Result<(), Failure> {
+    let report = rewrite_answers(only_folder(words)?).map_err(Trouble)?;
+    print(report.as_bytes())
+}
+
 fn run_vectors(words: &[String]) -> Result<(), Failure> {
-    let [folder] = words else {
-        return Err(bad_usage("one folder is needed"));
-    };
-    let outcome = run_folder(Path::new(folder)).map_err(Trouble)?;
+    let outcome = run_folder(only_folder(words)?).map_err(Trouble)?;
     print(outcome.report.as_bytes())?;
     match outcome.differing {
         0 => Ok(()),
@@ -196,7 +239,7 @@ fn run_vectors(words: &[String]) -> Result<(), Failure> {
 }
 
 fn run_longer(words: &[String]) -> Result<(), Failure> {
-    let options = Options::of(words, &["--seed", "--events"])?;
+    let options = Options::of(words, &["--seed", "--events"], &[])?;
     let seed = options.needed_number("--seed")?;
     let count = options.needed_number("--events")?;
     let stream = longer(seed, &read()?, count as usize).map_err(Difference)?;
@@ -204,40 +247,87 @@ fn run_longer(words: &[String]) -> Result<(), Failure> {
 }
 
 fn run_cases(words: &[String]) -> Result<(), Failure> {
-    let options = Options::of(words, &["--seed", "--runs", "--into", "--most-bytes"])?;
-    let seed = options.needed_number("--seed")?;
-    let runs = options.needed_number("--runs")?;
-    let most_bytes = options.number("--most-bytes")?.unwrap_or(u64::MAX);
+    let known = ["--seed", "--runs", "--into", "--most-bytes"];
+    let options = Options::of(words, &known, &[DAMAGED, FRESH])?;
+    let (mix, seed) = (options.mix(), options.needed_number("--seed")?);
     let Some(folder) = options.find("--into") else {
         return Err(bad_usage("--into is missing"));
     };
     let folder = Path::new(folder);
+    let cases = chosen_cases(&options, mix, seed)?;
     std::fs::create_dir_all(folder)
         .map_err(|error| Trouble(format!("cannot make {}: {error}", folder.display())))?;
     let mut counts = Counts::default();
     let mut list = String::new();
-    let numbers = (0..).filter(|number| image_bytes(seed, *number) <= most_bytes);
-    for number in numbers.take(runs as usize) {
-        let line = write_case(folder, seed, number, &mut counts)?;
+    for (number, case) in cases {
+        let name = match mix {
+            Mix::All => format!("s{seed}-{number:04}"),
+            Mix::Damaged => format!("d{seed}-{number:04}"),
+        };
+        let line = write_case(folder, &name, mix, &case, &mut counts)?;
         list.push_str(&line);
     }
     write_file(&folder.join("cases"), list.as_bytes()).map_err(Trouble)?;
     print(counts.report().as_bytes())
 }
 
-fn image_bytes(seed: u64, number: u64) -> u64 {
-    bench::split_stream(&case(seed, number).stream).0.len() as u64
+/// The first cases of a seed that fit the options, with their numbers.
+fn chosen_cases(options: &Options, mix: Mix, seed: u64) -> Result<Vec<(u64, Case)>, Failure> {
+    let runs = options.needed_number("--runs")?;
+    let most_bytes = options.number("--most-bytes")?.unwrap_or(u64::MAX);
+    let fitting = |end: u64| {
+        (0..end)
+            .map(|number| (number, case_of(mix, seed, number)))
+            .filter(|(_, case)| image_of(case).len() as u64 <= most_bytes)
+    };
+    if !options.has(FRESH) {
+        return Ok(fitting(u64::MAX).take(runs as usize).collect());
+    }
+    let mut known_ways = BTreeSet::new();
+    let is_fresh = |(_, case): &(u64, Case)| {
+        let ways = ways_of_refusal(image_of(case));
+        !names_first_record(image_of(case)) && known_ways.insert(ways)
+    };
+    let fresh = fitting(MOST_LOOKED_AT).filter(is_fresh);
+    Ok(fresh.take(runs as usize).collect())
+}
+
+/// How many cases are looked at for those that are refused in a new way.
+const MOST_LOOKED_AT: u64 = 20_000;
+
+fn image_of(case: &Case) -> &[u8] {
+    bench::split_stream(&case.stream).0
+}
+
+/// In which way the whole image breaks its rule, and in which way it does at the place named.
+fn ways_of_refusal(image: &[u8]) -> Option<(Broken, Broken)> {
+    let whole = first_broken(image)?;
+    let named = open(image).err()?;
+    Some((whole, named.broken))
+}
+
+/// A program that always names the first record would be right there.
+fn names_first_record(image: &[u8]) -> bool {
+    match (open(image), Header::decode(image)) {
+        (Err(refusal), Some(header)) => [
+            header.certificates_at,
+            header.cards_at,
+            header.executables_at,
+            header.table_at,
+        ]
+        .contains(&(refusal.offset as u32)),
+        _ => false,
+    }
 }
 
 /// Writes the files of one case and gives its line of the list.
 fn write_case(
     folder: &Path,
-    seed: u64,
-    number: u64,
+    name: &str,
+    mix: Mix,
+    case: &Case,
     counts: &mut Counts,
 ) -> Result<String, Failure> {
-    let case = case(seed, number);
-    let name = format!("s{seed}-{number:04}");
     let run = checked_run(&case.stream, counts)
         .map_err(|complaint| Difference(format!("case {name}: {complaint}")))?;
     let path = |ending: &str| folder.join(format!("{name}.{ending}"));
@@ -246,7 +336,22 @@ fn write_case(
     if let Ok(image) = &run.image {
         write_file(&path("fin"), image).map_err(Trouble)?;
     }
-    Ok(format!("{name} {}\n", case.description))
+    let description = &case.description;
+    Ok(match mix {
+        Mix::All => format!("{name} {description}\n"),
+        Mix::Damaged => format!("{name} {description} | {}\n", outcome_in_words(case, &run)),
+    })
+}
+
+/// Whether the image is accepted, or where it is wrong and what else breaks the rule above that.
+fn outcome_in_words(case: &Case, run: &Run) -> String {
+    match (&run.image, ways_of_refusal(image_of(case))) {
+        (Err(refusal), Some((whole, named))) if whole != named => {
+            format!("{refusal}, above it {}", whole.way)
+        }
+        (Err(refusal), _) => refusal.to_string(),
+        (Ok(_), _) => "accepted".to_string(),
+    }
 }
 
 fn run_fuzz(words: &[String]) -> Result<(), Failure> {
@@ -275,7 +380,7 @@ fn read_plan(words: &[String]) -> Result<Plan, Failure> {
         return Err(bad_usage("a command is missing behind `--`"));
     }
     let known = ["--seed", "--runs", "--seconds", "--workers", "--keep"];
-    let options = Options::of(&words[..end], &known)?;
+    let options = Options::of(&words[..end], &known, &[DAMAGED])?;
     let until = match (options.number("--runs")?, options.number("--seconds")?) {
         (Some(runs), None) => Until::Runs(runs),
         (None, Some(seconds)) => Until::Time(Duration::from_secs(seconds)),
@@ -286,6 +391,7 @@ fn read_plan(words: &[String]) -> Result<Plan, Failure> {
         return Err(bad_usage("--workers goes from 1 to 64"));
     }
     Ok(Plan {
+        mix: options.mix(),
         seed: options.needed_number("--seed")?,
         until,
         workers: workers as usize,

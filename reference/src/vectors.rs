@@ -1,4 +1,5 @@
-//! The stored cases of a folder, run through the reference: what differs, and what was covered.
+//! The stored cases of a folder, run through the reference: what differs, what was covered, and
+//! the stored answers written anew.
 //!
 //! A folder has a file `cases`, a line for each that begins with its name, and for each NAME the
 //! files NAME.in (a stream), NAME.out (what `bench` prints) and, where the image is accepted,
@@ -9,7 +10,7 @@ use std::path::Path;
 
 use crate::bench::Run;
 use crate::check::{checked_run, Counts};
-use crate::fuzz::first_difference;
+use crate::fuzz::{first_difference, write_file};
 
 /// What the cases of a folder gave.
 pub struct Outcome {
@@ -19,14 +20,12 @@ pub struct Outcome {
 
 /// Runs all cases of a folder.
 pub fn run_folder(folder: &Path) -> Result<Outcome, String> {
-    let list = String::from_utf8(read(&folder.join("cases"))?)
-        .map_err(|error| format!("{}: {error}", folder.join("cases").display()))?;
     let mut counts = Counts::default();
     let mut report = String::new();
     let (mut run, mut differing) = (0, 0);
-    for name in list.lines().map(first_word) {
+    for name in names(folder)? {
         run += 1;
-        if let Err(difference) = run_stored(folder, name, &mut counts) {
+        if let Err(difference) = run_stored(folder, &name, &mut counts) {
             differing += 1;
             report.push_str(&format!("case {name} {difference}\n"));
         }
@@ -36,8 +35,16 @@ pub fn run_folder(folder: &Path) -> Result<Outcome, String> {
     Ok(Outcome { report, differing })
 }
 
-fn first_word(line: &str) -> &str {
-    line.split(' ').next().unwrap_or("")
+/// The names of a folder's cases, in the order of its list.
+fn names(folder: &Path) -> Result<Vec<String>, String> {
+    let list = folder.join("cases");
+    let text =
+        String::from_utf8(read(&list)?).map_err(|error| format!("{}: {error}", list.display()))?;
+    Ok(text.lines().map(first_word).collect())
+}
+
+fn first_word(line: &str) -> String {
+    line.split(' ').next().unwrap_or("").to_string()
 }
 
 fn read(path: &Path) -> Result<Vec<u8>, String> {
@@ -55,6 +62,28 @@ fn run_stored(folder: &Path, name: &str, counts: &mut Counts) -> Result<(), Stri
     compare_images(&run, &path("fin"))
 }
 
+/// Writes what the reference prints over each stored answer that says something else, and tells
+/// where the stored one differed first. The streams and the final images stay as they are.
+pub fn rewrite_answers(folder: &Path) -> Result<String, String> {
+    let mut report = String::new();
+    let (mut all, mut rewritten) = (0, 0);
+    for name in names(folder)? {
+        all += 1;
+        let path = |ending: &str| folder.join(format!("{name}.{ending}"));
+        let run = checked_run(&read(&path("in"))?, &mut Counts::default())
+            .map_err(|complaint| format!("case {name}: {complaint}"))?;
+        let stored = read(&path("out"))?;
+        if run.text.as_bytes() != stored {
+            write_file(&path("out"), run.text.as_bytes())?;
+            rewritten += 1;
+            let difference = first_difference(&String::from_utf8_lossy(&stored), &run.text);
+            report.push_str(&format!("case {name} {difference}\n"));
+        }
+    }
+    report.push_str(&format!("{all} cases, {rewritten} answers rewritten\n"));
+    Ok(report)
+}
+
 fn compare_images(run: &Run, stored: &Path) -> Result<(), String> {
     let Ok(image) = &run.image else {
         return Ok(());
@@ -65,4 +94,31 @@ fn compare_images(run: &Run, stored: &Path) -> Result<(), String> {
     }
     let at = image.iter().zip(&want).take_while(|(a, b)| a == b).count();
     Err(format!("image differs from byte {at} on"))
+}
+
+#[cfg(test)]
+mod tests {
+    use super::*;
+    use crate::bench::run;
+
+    #[test]
+    fn only_answers_that_differ_are_rewritten() {
+        let folder = std::env::temp_dir().join(format!("reference-answers-{}", std::process::id()));
+        let put = |name: &str, bytes: &[u8]| write_file(&folder.join(name), bytes).expect("a file");
+        std::fs::create_dir_all(&folder).expect("a folder");
+        put("cases", b"old an answer without a place\nnew one with it\n");
+        let right = run(&[0; 7]).text;
+        for name in ["old", "new"] {
+            put(&format!("{name}.in"), &[0; 7]);
+            put(&format!("{name}.out"), right.as_bytes());
+        }
+        put("old.out", b"event kind code domain links\nimage 1\n");
+        let report = rewrite_answers(&folder).expect("a report");
+        assert!(report.starts_with("case old event 1: expected `image 1`, found `image 1 1 7`\n"));
+        assert!(report.ends_with("2 cases, 1 answers rewritten\n"));
+        assert_eq!(read(&folder.join("old.out")), Ok(right.into_bytes()));
+        let report = rewrite_answers(&folder).expect("a report");
+        assert_eq!(report, "2 cases, 0 answers rewritten\n");
+        std::fs::remove_dir_all(&folder).expect("the folder is there");
+    }
 }

@@ -3,7 +3,7 @@
 use reference::events::allowed_actors;
 
 mod common;
-use common::{answers, broken_rule, codes, phone_after, worked_image};
+use common::{answers, codes, phone_after, refusal, worked_image};
 
 /// A fuller image: the card of operator 500 is in, one slot of each table is free.
 const IMAGE: &str = "\
@@ -279,8 +279,8 @@ request by device executable 1 action 32";
 
 #[test]
 fn the_first_broken_rule_is_told() {
-    assert_eq!(broken_rule(IMAGE), 0);
-    let change = |from: &str, to: &str| broken_rule(&IMAGE.replacen(from, to, 1));
+    assert_eq!(refusal(IMAGE), (0, 0));
+    let change = |from: &str, to: &str| refusal(&IMAGE.replacen(from, to, 1)).0;
     assert_eq!(change("key 5 owner", "key 0 owner"), 2);
     assert_eq!(change("phone mode 1 card 1", "phone mode 1 card 3"), 3);
     assert_eq!(change("certificate 2 on", "certificate 1 on"), 4);
@@ -308,5 +308,21 @@ fn a_broken_image_answers_1_and_stays_as_it_is() {
     let before = image.clone();
     let answer = reference::events::step_image(&mut image, &[]);
     assert_eq!((answer.code, answer.domain, answer.links), (1, 0, 0));
+    assert_eq!((answer.rule, answer.offset), (1, 0));
     assert_eq!(image, before);
+}
+
+#[test]
+fn rule_and_offset_are_told_for_code_1_alone() {
+    let mut image = common::stream(worked_image(), "");
+    let told = |answer: reference::events::Answer| (answer.code, answer.rule, answer.offset);
+    let verify = common::stream("", "verify by device executable 1");
+    let answer = reference::events::step_image(&mut image, &verify);
+    assert_eq!(told(answer), (0, 0, 0));
+    let answer = reference::events::step_image(&mut image, &[]);
+    assert_eq!(told(answer), (2, 0, 0));
+    // The id of the second certificate becomes that of the first.
+    image.copy_within(40..42, 64);
+    let answer = reference::events::step_image(&mut image, &verify);
+    assert_eq!(told(answer), (1, 4, 64));
 }

@@ -1,11 +1,13 @@
-//! The generator reaches every code of every kind, every way to break a rule and every chain.
+//! The generator reaches every code of every kind, every way to break a rule, and every chain; its
+//! damaged cases reach every rule at many places.
 
 mod common;
 
 use common::WORKED_RUN;
+use reference::bench::split_stream;
 use reference::check::{checked_run, Counts};
 use reference::generate::events::codes_of;
-use reference::generate::{case, damage::count_of_ways, longer};
+use reference::generate::{case, case_of, damage::count_of_ways, longer, Mix};
 use reference::text::to_bytes;
 
 #[test]
@@ -54,4 +56,33 @@ fn a_longer_stream_begins_with_the_stream_and_reaches_every_code_but_1() {
     // Behind a refused image, or inside an event, there is no place for another.
     assert!(longer(1, &short[..100], 1).is_err());
     assert!(longer(1, &long, 1).is_err());
+}
+
+#[test]
+fn damaged_cases_break_every_rule_at_many_places_and_leave_some_images_accepted() {
+    let mut counts = Counts::default();
+    let mut sizes = Vec::new();
+    for number in 0..2000 {
+        let case = case_of(Mix::Damaged, 1, number);
+        sizes.push(split_stream(&case.stream).0.len());
+        if let Err(complaint) = checked_run(&case.stream, &mut counts) {
+            panic!("case {number} ({}): {complaint}", case.description);
+        }
+        assert_eq!(case.stream, case_of(Mix::Damaged, 1, number).stream);
+    }
+    for rule in 1..=8 {
+        let (images, offsets) = counts.of_rule(rule);
+        assert!(images >= 80, "I{rule} is broken {images} times");
+        assert!(offsets >= 20, "I{rule} is broken at {offsets} offsets");
+    }
+    // Every header field that can be wrong, and the present card.
+    for field in [0, 2, 4, 6, 8, 10, 14, 20, 24, 28, 32, 36] {
+        assert!(counts.places[&(1, field)] >= 4, "byte {field}");
+    }
+    assert!(counts.places[&(3, 12)] >= 10);
+    assert!(counts.accepted >= 100);
+    assert!(sizes.iter().filter(|size| **size <= 200).count() >= 200);
+    assert!(sizes.iter().filter(|size| **size >= 2000).count() >= 100);
+    // Some ways are reached by more than one damage.
+    assert!(counts.refused.len() >= count_of_ways() - 7);
 }

@@ -86,7 +86,9 @@ fn a_stream_that_ends_inside_the_image_is_refused() {
     let stream = stream_of_bytes();
     for end in 0..184 {
         let run = bench::run(&stream[..end]);
-        assert_eq!(run.text, "event kind code domain links\nimage 1\n");
+        let offset = if end < 40 { end } else { 36 };
+        let refused = format!("event kind code domain links\nimage 1 1 {offset}\n");
+        assert_eq!(run.text, refused);
         assert!(run.image.is_err());
     }
     assert_eq!(

@@ -3,6 +3,7 @@ use Prim.Native.Nat.{ℕ, _+_, _≤_}
 use mathlib.Core.Bool.{Bool, true, false, cond}
 use mathlib.Core.List.{List, [], _∷_, _++_, append-assoc}
 use mathlib.Core.Path.{_≡_, ap, ap₂, _∙_}
+use native.Mathlib.Nat.{zero-add}
 use native.Mathlib.Omega.{arith}
 use lib.Dec.{T, leb, leb→le}
 use lib.ListN.{length, length-append}
@@ -12,7 +13,7 @@ use Rattle.records.proofs.Puts.{put-next}
 use Rattle.rules.specs.declared.Answer.{Answer}
 use Rattle.stream.specs.Decimal.{most-digits, decimal}
 use Rattle.stream.proofs.Texts.{decimal-small}
-use Rattle.bench.specs.Lines.{column, line, longest-line}
+use Rattle.bench.specs.Lines.{column, line, longest-line, image-one, image-refused}
 
 -- a text put at i makes l into s, and ends at j
 abbrev pub Put : List ℕ → ℕ → List ℕ → List ℕ → ℕ → Type 0
@@ -38,6 +39,18 @@ module _ (l : List ℕ) (at : ℕ) (room : at ≤ length l) (n kind : ℕ) (a : 
       ≡ decimal n ++ column kind ++ column (a .code) ++ column (a .domain) ++ column (a .links) ++ (10 ∷ []) = simp append-assoc in
       (whole .0 ∙ ap (put l at) same, whole .1 ∙ ap (λ (text : List ℕ). at + length text) same)
 
+-- the line of a refused image, column by column
+pub refusal-put : (l : List ℕ) (a : Answer) {p q r s : List ℕ} {i j k e : ℕ} → Put l 0 image-one p i → Put p i (column (a .rule)) q j
+    → Put q j (column (a .offset)) r k → Put r k (10 ∷ []) s e → (s ≡ put l 0 (image-refused a)) × (e ≡ length (image-refused a))
+unfolding image-refused
+refusal-put l a one ruled placed ended =
+    let to-rule = then l 0 image-one (column (a .rule)) (omega arith) one ruled in
+    let to-offset = then l 0 (image-one ++ column (a .rule)) (column (a .offset)) (omega arith) to-rule placed in
+    let whole = then l 0 ((image-one ++ column (a .rule)) ++ column (a .offset)) (10 ∷ []) (omega arith) to-offset ended in
+    let same : ((image-one ++ column (a .rule)) ++ column (a .offset)) ++ (10 ∷ [])
+    ≡ image-one ++ column (a .rule) ++ column (a .offset) ++ (10 ∷ []) = simp append-assoc in
+    (whole .0 ∙ ap (put l 0) same, whole .1 ∙ zero-add _ ∙ ap length same)
+
 -- where a number, and a column, end at the latest
 pub number-ends : (n at : ℕ) {r : ℕ} → r ≡ at + length (decimal n) → r ≤ at + most-digits
 number-ends n at e = let h = decimal-small n in omega arith
@@ -54,6 +67,13 @@ line-small n kind a =
     let coded = decimal-small (a .code) in
     let placed = decimal-small (a .domain) in
     let linked = decimal-small (a .links) in
+    simp length-append (omega arith)
+
+pub refusal-small : (a : Answer) → length (image-refused a) ≤ longest-line
+unfolding image-refused
+refusal-small a =
+    let ruled = decimal-small (a .rule) in
+    let placed = decimal-small (a .offset) in
     simp length-append (omega arith)
 
 -- where a line goes there is room for it

@@ -24,13 +24,17 @@ unfoldable pub heading : List ℕ
 heading = bytes 29 0x6576656e74_20_6b696e64_20_636f6465_20_646f6d61696e_20_6c696e6b73_0a
 
 -- "A buffer whose image answers 1 prints only the first line and `image 1`"
-unfoldable pub image-refused : List ℕ
-image-refused = bytes 8 0x696d616765_20_31_0a
+abbrev pub image-one : List ℕ
+image-one = bytes 7 0x696d616765_20_31
+
+-- 02, item 1: "`bench` prints both after `image 1`", the broken rule and the byte offset
+unfoldable pub image-refused : Answer → List ℕ
+image-refused a = image-one ++ column (a .rule) ++ column (a .offset) ++ (10 ∷ [])
 
 -- ---- lines, computed
 
 abbrev told : ℕ → ℕ → ℕ → Answer
-told c d n = record { code = c; domain = d; links = n }
+told c d n = record { code = c; domain = d; links = n; rule = 0; offset = 0 }
 
 -- "1 15 0 1 2"
 pub first-of-the-run : line 1 15 (told 0 1 2) ≡ bytes 11 0x31_20_3135_20_30_20_31_20_32_0a
@@ -41,6 +45,15 @@ first-of-the-run = refl
 pub whole-numbers : line 1000 255 (told 2 0 0) ≡ bytes 15 0x31303030_20_323535_20_32_20_30_20_30_0a
 unfolding line decimal places-within
 whole-numbers = refl
+
+-- "image 1 4 88", and a rule of a record far behind
+pub fourth-rule : image-refused (record { code = 1; domain = 0; links = 0; rule = 4; offset = 88 }) ≡ bytes 13 0x696d616765_20_31_20_34_20_3838_0a
+unfolding image-refused decimal places-within
+fourth-rule = refl
+
+pub far-behind : image-refused (record { code = 1; domain = 0; links = 0; rule = 8; offset = 2524 }) ≡ bytes 15 0x696d616765_20_31_20_38_20_32353234_0a
+unfolding image-refused decimal places-within
+far-behind = refl
 
 -- the longest number of 64 bits
 pub last-number : length (decimal 18446744073709551615) ≡ most-digits

@@ -35,12 +35,12 @@ fn room(out: &[u8], used: usize) -> usize
 }
 
 // A space and a number put at a place: the place behind them.
-fn put_column(out: &mut [u8], at: usize, n: u8) -> usize
+fn put_column(out: &mut [u8], at: usize, n: u64) -> usize
     requires { ⌜ at + 1 + most-digits ≤ length (now out) ⌝ }
     ensures { λ r. ⌜ (now (out .exit) ≡ put (now (out .entry)) at (column n)) × (r ≡ at + length (column n)) ⌝ }
 {
     stream::put_text(out, at, b" ");
-    stream::put_number(out, at + 1, n as u64)
+    stream::put_number(out, at + 1, n)
 }
 
 // The line of an event's answer put at a place: the place behind it.
@@ -49,15 +49,15 @@ fn put_line(out: &mut [u8], at: usize, n: u64, kind: u8, a: rules::Answer) -> us
     ensures { λ r. ⌜ (now (out .exit) ≡ put (now (out .entry)) at (line n kind a)) × (r ≡ at + length (line n kind a)) ⌝ }
 {
     let numbered = stream::put_number(out, at, n);
-    let kinded = put_column(out, numbered, kind);
-    let coded = put_column(out, kinded, a.code);
-    let placed = put_column(out, coded, a.domain);
-    let linked = put_column(out, placed, a.links);
+    let kinded = put_column(out, numbered, kind as u64);
+    let coded = put_column(out, kinded, a.code as u64);
+    let placed = put_column(out, coded, a.domain as u64);
+    let linked = put_column(out, placed, a.links as u64);
     stream::put_text(out, linked, b"\n");
     linked + 1
 }
 
-// The two fixed lines, put at the start of a buffer: how long they are.
+// The first line, put at the start of a buffer: how long it is.
 fn put_heading(out: &mut [u8]) -> usize
     requires { ⌜ length heading ≤ length (now out) ⌝ }
     ensures { λ r. ⌜ (now (out .exit) ≡ put (now (out .entry)) 0 heading) × (r ≡ length heading) ⌝ }
@@ -66,12 +66,16 @@ fn put_heading(out: &mut [u8]) -> usize
     29
 }
 
-fn put_refusal(out: &mut [u8]) -> usize
-    requires { ⌜ length image-refused ≤ length (now out) ⌝ }
-    ensures { λ r. ⌜ (now (out .exit) ≡ put (now (out .entry)) 0 image-refused) × (r ≡ length image-refused) ⌝ }
+// The line of an image that is refused, put at the start of a buffer: how long it is.
+fn put_refusal(out: &mut [u8], a: rules::Answer) -> usize
+    requires { ⌜ longest-line ≤ length (now out) ⌝ }
+    ensures { λ r. ⌜ (now (out .exit) ≡ put (now (out .entry)) 0 (image-refused a)) × (r ≡ length (image-refused a)) ⌝ }
 {
-    stream::put_text(out, 0, b"image 1\n");
-    8
+    stream::put_text(out, 0, b"image 1");
+    let ruled = put_column(out, 7, a.rule as u64);
+    let placed = put_column(out, ruled, a.offset as u64);
+    stream::put_text(out, placed, b"\n");
+    placed + 1
 }
 
 // ---- a run
@@ -97,8 +101,9 @@ fn all_events(s: &mut [u8], v: &mut [u8], out: &mut [u8])
 // What came as an image, and the events behind it. Zeros of the buffer never stand for bytes that were not read.
 fn lesson(s: &mut [u8]) {
     let mut out = io::large_buffer();
-    if opening::open(s) != 0 {
-        let refusal = put_refusal(&mut out);
+    let fault = opening::open(s);
+    if fault.rule != 0 {
+        let refusal = put_refusal(&mut out, opening::refused_at(s, fault));
         io::write_all(STDOUT_FILENO, &out[..refusal]);
         return;
     }

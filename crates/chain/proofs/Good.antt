@@ -1,6 +1,6 @@
 -- What is good within n links is good within more. Assumes nothing.
 use Prim.Native.Nat.{ℕ, zero, suc, _≤_}
-use mathlib.Core.Bool.{Bool, true, false, _&&_, _||_}
+use mathlib.Core.Bool.{Bool, _&&_, _||_}
 use mathlib.Core.List.{List}
 use mathlib.Core.Logic.{_⊎_, inl, inr}
 use mathlib.Core.Path.{_≡_, refl, subst}
@@ -43,9 +43,3 @@ good-up zero m t c h g = let e : m ≡ 0 = omega arith in subst (λ k. T (good k
 good-up (suc n) m t c h g =
     by-test (eqb m (suc n)) (λ b. subst (λ k. T (good k t c)) (is m (suc n) b) g)
     (λ b. good-more n t c (good-up n m t c (omega (arith, isnt m (suc n) b)) g))
-
-pub same : (a b : Bool) → (T a → T b) → (T b → T a) → a ≡ b
-same true true f g = refl
-same true false f g = absurd (f tt)
-same false true f g = absurd (g tt)
-same false false f g = refl

@@ -9,11 +9,11 @@ use Rattle.records.specs.Phone.{Trust}
 use Rattle.records.specs.declared.Certificate.{Certificate}
 use Rattle.rules.specs.Words.{any, least}
 use Rattle.rules.specs.Chains.{trusted-root, link, serves, good}
-use Rattle.rules.proofs.Tests.{and-r, isnt, tnsi}
+use Rattle.rules.proofs.Tests.{and-r, isnt, tnsi, same}
 use Rattle.rules.proofs.Lists.{any-out}
 use Rattle.rules.proofs.Least.{least-small, least-passes, least-least}
 use Rattle.chain.specs.Keys.{reach}
-use Rattle.chain.proofs.Good.{serves-more, good-up, same}
+use Rattle.chain.proofs.Good.{serves-more, good-up}
 
 -- a test that more passes the further one goes
 least-tells : (f : ℕ → Bool) (n : ℕ) → ((m : ℕ) → m ≤ n → T (f m) → T (f n)) → (T (f 0) → ⊥) → not (eqb (least n f) 0) ≡ f n

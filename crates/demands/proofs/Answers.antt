@@ -14,13 +14,13 @@ use Rattle.rules.specs.Explicit.{Chain-within, Shortest}
 use Rattle.rules.specs.Codes.{executable-named, code-of, code}
 use Rattle.rules.specs.Effects.{changed}
 use Rattle.rules.specs.declared.Answer.{Answer}
-use Rattle.rules.specs.Step.{refused, done, step}
+use Rattle.rules.specs.Step.{refused, refused-at, refusal, done, step}
 use Rattle.rules.proofs.Tests.{is, si, or-i, or-j, or-cases}
 use Rattle.rules.proofs.Accepted.{Accepted}
 use Rattle.rules.proofs.Accepts.{accepted-out}
 use Rattle.demands.specs.Runs.{event-of, key-named, phone-after}
 use Rattle.demands.proofs.Heard.{heard, verify-domain, domain-exact, none-links, counted}
-use Rattle.demands.proofs.Bytes.{Whole, code-whole-out, step-done, step-cases}
+use Rattle.demands.proofs.Bytes.{refusal-cases, Whole, code-whole-out, step-done, step-cases}
 
 -- ---- opening
 
@@ -38,7 +38,7 @@ abbrev telling : Event → Bool
 telling e = eqb (e .kind) 12 || eqb (e .kind) 15
 
 abbrev told-of : Trust → ℕ → ℕ → Answer
-told-of t k d = record { code = 0; domain = d; links = links t k d }
+told-of t k d = record { code = 0; domain = d; links = links t k d; rule = 0; offset = 0 }
 
 abbrev told-named : Phone → ℕ → Answer
 told-named p n = told-of (p .trust) (executable-named p n .signing) (executable-named p n .domain)
@@ -75,21 +75,47 @@ tells e (inr i) = or-j (eqb (e .kind) 12) (eqb (e .kind) 15) (si (e .kind) 15 i)
 
 -- ---- in bytes
 
+module _ (l : List ℕ) (c : ℕ) where
+  refusal-code : refusal l c .code ≡ c
+  refusal-code = refusal-cases (λ a. a .code ≡ c) l c (λ e. sym e) (λ n. refl)
+
+  refusal-quiet : (refusal l c .domain ≡ 0) × (refusal l c .links ≡ 0)
+  refusal-quiet = refusal-cases (λ a. (a .domain ≡ 0) × (a .links ≡ 0)) l c (λ e. (refl, refl)) (λ n. (refl, refl))
+
+-- nothing is told of a fault but with code 1
+abbrev Faultless : Answer → Type 0
+Faultless a = (a .rule ≡ 0) × (a .offset ≡ 0)
+
 module _ (l v : List ℕ) where
+  pub told-where : code l v ≡ 1 → step l v .answer ≡ refused-at l
+  told-where h =
+      step-cases (λ o. o .answer ≡ refused-at l) l v (λ z. let no : ⊥ = omega arith in absurd no)
+      (λ n. refusal-cases (λ a. a ≡ refused-at l) l (code l v) (λ e. refl) (λ n. absurd (n h)))
+
+  pub told-no-fault : code l v ≢ 1 → Faultless (step l v .answer)
+  told-no-fault h =
+      step-cases (λ o. Faultless (o .answer)) l v
+      (λ z. done-cases Faultless (event-of v) (changed (event-of v) (decode l)) (λ t. (refl, refl)) (λ t. (refl, refl)))
+      (λ n. refusal-cases Faultless l (code l v) (λ e. absurd (h e)) (λ n. (refl, refl)))
+
   pub answer-code : step l v .answer .code ≡ code l v
   answer-code =
       step-cases (λ o. o .answer .code ≡ code l v) l v
-      (λ z. done-code (event-of v) (changed (event-of v) (decode l)) ∙ sym z) (λ n. refl)
+      (λ z. done-code (event-of v) (changed (event-of v) (decode l)) ∙ sym z) (λ n. refusal-code l (code l v))
+
+  pub refused-quiet : code l v ≢ 0 → (step l v .answer .domain ≡ 0) × (step l v .answer .links ≡ 0)
+  refused-quiet h =
+      step-cases (λ o. (o .answer .domain ≡ 0) × (o .answer .links ≡ 0)) l v (λ z. absurd (h z)) (λ n. refusal-quiet l (code l v))
 
   pub answer-quiet : event-of v .kind ≢ 12 → event-of v .kind ≢ 15 → (step l v .answer .domain ≡ 0) × (step l v .answer .links ≡ 0)
   answer-quiet a b =
       step-cases (λ o. (o .answer .domain ≡ 0) × (o .answer .links ≡ 0)) l v
-      (λ z. done-quiet (event-of v) (changed (event-of v) (decode l)) a b) (λ n. (refl, refl))
+      (λ z. done-quiet (event-of v) (changed (event-of v) (decode l)) a b) (λ n. refusal-quiet l (code l v))
 
   pub answer-none : step l v .answer .domain ≡ 0 → step l v .answer .links ≡ 0
   answer-none =
       step-cases (λ o. o .answer .domain ≡ 0 → o .answer .links ≡ 0) l v
-      (λ z. done-none (event-of v) (changed (event-of v) (decode l))) (λ n z. refl)
+      (λ z. done-none (event-of v) (changed (event-of v) (decode l))) (λ n z. refusal-quiet l (code l v) .1)
 
   module _ (h : code l v ≡ 0) where
     w : Whole l v

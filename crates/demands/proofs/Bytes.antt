@@ -1,11 +1,11 @@
 -- One event and a run of events on the bytes of an image: what they make of the phone that it says, and that it stays accepted. Assumes nothing.
 use Prim.Native.Nat.{ℕ}
-use mathlib.Core.Bool.{true, cond}
+use mathlib.Core.Bool.{Bool, true, false, cond, not, _&&_, true≢false}
 use mathlib.Core.List.{List, [], _∷_, map}
-use mathlib.Core.Logic.{_≢_, _⊎_, inl, inr}
+use mathlib.Core.Logic.{_≢_, _⊎_, inl, inr, _↔_}
 use mathlib.Core.Path.{_≡_, refl, subst, sym, ap, _∙_}
 use borrow.Author.Tests.{eq-eqb, ne-eqb}
-use lib.Dec.{eqb}
+use lib.Dec.{T, eqb}
 use lib.ListN.{length}
 use Rattle.octets.proofs.Laws.{Bytes}
 use Rattle.records.specs.Sizes.{event-size}
@@ -14,12 +14,13 @@ use Rattle.records.specs.Phone.{Phone, decode, encode, certificate-at}
 use Rattle.records.specs.declared.Event.{Event}
 use Rattle.records.proofs.Records.{event-read-bytes}
 use Rattle.records.proofs.RoundTrip.{decode-encode, length-encode, frame}
-use Rattle.rules.specs.Words.{first}
+use Rattle.rules.specs.declared.Answer.{Answer}
+use Rattle.rules.specs.Words.{first, Check, _⇒_}
 use Rattle.rules.specs.ImageRules.{accepted}
-use Rattle.rules.specs.Codes.{rows, code-of, code}
+use Rattle.rules.specs.Codes.{rows, refusals, code-of, code}
 use Rattle.rules.specs.Effects.{changed}
-use Rattle.rules.specs.Step.{refused, done, Outcome, step, run}
-use Rattle.rules.proofs.Tests.{by-test, is, si, isnt, not-elim, first-out}
+use Rattle.rules.specs.Step.{refused, refused-at, refusal, done, Outcome, step, run}
+use Rattle.rules.proofs.Tests.{and-l, and-r, by-test, is, si, isnt, not-elim, first-out}
 use Rattle.rules.proofs.Accepts.{T-true, accepted-out, accepted-in}
 use Rattle.rules.proofs.Marks.{Marked-by, changed-marks}
 use Rattle.demands.proofs.After.{after, after-all}
@@ -59,13 +60,48 @@ pub step-done : (l v : List ℕ) → code l v ≡ 0 → step l v ≡ event-done 
 unfolding step
 step-done l v h = rw h
 
-pub step-refused : (l v : List ℕ) → code l v ≢ 0 → step l v ≡ record { answer = refused (code l v); image = l }
+pub step-refused : (l v : List ℕ) → code l v ≢ 0 → step l v ≡ record { answer = refusal l (code l v); image = l }
 unfolding step
 step-refused l v h = rw (ne-eqb (code l v) 0 h)
 
+-- what is told of a refusal: the fault of the image, or the code alone
+pub refusal-cases : (P : Answer → Type 0) (l : List ℕ) (c : ℕ) → (c ≡ 1 → P (refused-at l)) → (c ≢ 1 → P (refused c)) → P (refusal l c)
+unfolding refusal
+refusal-cases P l c f g =
+    by-test (eqb c 1)
+    (λ t. rw (eq-eqb c 1 (is c 1 t)) (f (is c 1 t)))
+    (λ t. rw (ne-eqb c 1 (isnt c 1 t)) (g (isnt c 1 t)))
+
+-- no code of a list is k
+abbrev lacks : ℕ → List Check → Bool
+lacks k [] = not (eqb 0 k)
+lacks k ((b ⇒ n) ∷ l) = not (eqb n k) && lacks k l
+
+lacked : (k : ℕ) (l : List Check) → T (lacks k l) → first l ≢ k
+unfolding first
+lacked k [] h = isnt 0 k h
+lacked k ((true ⇒ n) ∷ l) h = isnt n k (and-l (not (eqb n k)) (lacks k l) h)
+lacked k ((false ⇒ n) ∷ l) h = lacked k l (and-r (not (eqb n k)) (lacks k l) h)
+
+-- code 1 is the image's alone
+pub never-one : (p : Phone) (e : Event) → code-of p e ≢ 1
+unfolding code-of
+never-one p e = lacked 1 (refusals p e) tt
+
+pub code-one : (l v : List ℕ) → (code l v ≡ 1) ↔ (accepted l ≡ false)
+unfolding code first
+code-one l v = go (accepted l)
+  where
+    others : List Check
+    others = (not (eqb (length v) event-size) ⇒ 2) ∷ refusals (decode l) (event-read v 0)
+
+    go : (b : Bool) → (cond (not b) 1 (first others) ≡ 1) ↔ (b ≡ false)
+    go true = (λ e. absurd (lacked 1 others tt e), λ e. absurd (true≢false e))
+    go false = (λ e. refl, λ e. refl)
+
 -- done, or refused
 pub step-cases : (P : Outcome → Type 0) (l v : List ℕ) → (code l v ≡ 0 → P (event-done l v))
-    → (code l v ≢ 0 → P (record { answer = refused (code l v); image = l })) → P (step l v)
+    → (code l v ≢ 0 → P (record { answer = refusal l (code l v); image = l })) → P (step l v)
 step-cases P l v d r =
     by-test (eqb (code l v) 0)
     (λ t. let z = is (code l v) 0 t in subst P (sym (step-done l v z)) (d z))

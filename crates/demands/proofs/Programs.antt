@@ -25,7 +25,8 @@ use Rattle.rules.proofs.Lists.{none-out, fill-out}
 use Rattle.rules.proofs.Distinct.{distinct-map, distinct-fill}
 use Rattle.rules.proofs.Changes.{at-cases}
 use Rattle.rules.proofs.Domain.{chain-small}
-use Rattle.rules.proofs.Accepts.{chained-fits, chained-out}
+use Rattle.rules.specs.Parts.{chained-fits}
+use Rattle.rules.proofs.Accepts.{chained-out}
 use Rattle.rules.proofs.Accepted.{Stored}
 use Rattle.demands.proofs.ByKind.{by-kind}
 use Rattle.demands.proofs.Told.{Told, id-formed, action-formed}

@@ -1,29 +1,39 @@
--- THE THEOREMS. Each sentence of the three demands with its statement; the files cited hold the arguments. Assumes nothing.
+-- THE THEOREMS. Each sentence of the three demands, and of 02's first item, with its statement; the files cited hold the arguments. Assumes nothing.
 -- l is an image and v an event, both any bytes; vs is a run of events, refused ones among them.
 -- What the statements speak of: `step`, `run` (rules, specs/Step), `code`, `rows` (specs/Codes), `accepted` (specs/ImageRules),
--- `grants` (specs/Demands), `Chain-within`, `Shortest` (specs/Explicit), and here specs/Runs and specs/Frames.
-use Prim.Native.Nat.{ℕ, _≤_, _<_}
-use mathlib.Core.Bool.{true}
+-- `grants` (specs/Demands), `Chain-within`, `Shortest` (specs/Explicit), and here specs/Runs and specs/Frames; of a fault: `fault`, `fault-offset`
+-- (rules, specs/Faults), `Lowest-at`, `Wrong-field` (specs/Named).
+use Prim.Native.Nat.{ℕ, suc, _≤_, _<_}
+use mathlib.Core.Bool.{true, false}
 use mathlib.Core.List.{List}
 use mathlib.Core.Logic.{_≢_, _⊎_, _↔_}
-use mathlib.Core.Path.{_≡_, ap, _∙_}
+use mathlib.Core.Path.{_≡_, ap, _∙_, subst}
 use native.Mathlib.Omega.{arith}
 use lib.Dec.{T}
 use lib.ListN.{length, getD}
-use Rattle.records.specs.Phone.{decode, encode, certificate-at}
+use Rattle.records.specs.Sizes.{header-size}
+use Rattle.records.specs.Layout.{certificate-read, card-read, executable-read, row-read}
+use Rattle.records.specs.Phone.{decode, encode, certificate-at, card-at, executable-at, row-at}
+use Rattle.records.specs.Frame.{framed}
 use Rattle.records.specs.declared.Certificate.{Certificate}
 use Rattle.records.proofs.RoundTrip.{decode-encode}
+use Rattle.rules.specs.declared.Site.{Site}
+use Rattle.rules.specs.Words.{all}
 use Rattle.rules.specs.Chains.{most-links}
 use Rattle.rules.specs.Explicit.{Chain-within, Shortest}
-use Rattle.rules.specs.ImageRules.{accepted, «open»}
+use Rattle.rules.specs.ImageRules.{i2, i4, i5, row-fits, i7, i8, accepted, «open»}
+use Rattle.rules.specs.Parts.{cards-fit, present-known, places-known}
+use Rattle.rules.specs.Faults.{of-certificates, of-executables, at-rule, no-fault, fault, fault-offset}
+use Rattle.rules.specs.Named.{rules, is-right, i1-fields, Wrong-field, Lowest-at, Wrong-card, Within}
 use Rattle.rules.specs.Codes.{executable-named, rows, code}
 use Rattle.rules.specs.Effects.{changed}
-use Rattle.rules.specs.Step.{refused, step, run}
+use Rattle.rules.specs.Step.{refused-at, refusal, step, run}
 use Rattle.rules.specs.Demands.{grants}
 use Rattle.rules.proofs.Tests.{si}
 use Rattle.rules.proofs.Accepts.{accepted-out}
 use Rattle.rules.proofs.Shortest.{chain-chains}
 use Rattle.rules.proofs.Domain as Domain
+use Rattle.rules.proofs.Where as Where
 use Rattle.demands.specs.Runs.{Applies, Withdrawing-run, Giving-run, verified, event-of, key-named, phone-after, Valid-operator, Granted}
 use Rattle.demands.specs.Frames.{Framed-change}
 use Rattle.demands.proofs.Table.{first-applies, first-lowest}
@@ -51,8 +61,11 @@ module _ (l v : List ℕ) where
   unfolding code
   code-lowest n h = let f = first-lowest 1 tt h in (omega arith, omega arith)
 
-  -- "Every code other than 0 gives domain 0 and links 0 and leaves the image unchanged."
-  pub refused-unchanged : code l v ≢ 0 → step l v ≡ record { answer = refused (code l v); image = l }
+  -- "Every code other than 0 gives domain 0 and links 0 and leaves the image unchanged.": what else is told, `refusal`, is of 02
+  pub refused-quiet : code l v ≢ 0 → (step l v .answer .domain ≡ 0) × (step l v .answer .links ≡ 0)
+  refused-quiet h = Answers.refused-quiet l v h
+
+  pub refused-unchanged : code l v ≢ 0 → step l v ≡ record { answer = refusal l (code l v); image = l }
   refused-unchanged h = Bytes.step-refused l v h
 
   -- "Domain and links are non-zero only for code 0 of verify and request"
@@ -177,3 +190,99 @@ module _ (l : List ℕ) (ok : accepted l ≡ true) (before vs : List (List ℕ))
 -- on an accepted image verifying every application twice is verifying it once
 pub verified-again : (l : List ℕ) → accepted l ≡ true → verified (verified l) ≡ verified l
 verified-again l ok = Demand3.verified-again l ok
+
+-- ==== 02, item 1: say where an image is wrong
+
+module _ (l v : List ℕ) where
+  -- "code 1 as before": it is given exactly if the image is not accepted
+  pub code-one : (code l v ≡ 1) ↔ (accepted l ≡ false)
+  code-one = Bytes.code-one l v
+
+  -- "any step on a bad one, should also tell the first broken rule, 1 to 8, and a byte offset"
+  pub told-where : code l v ≡ 1 → step l v .answer ≡ refused-at l
+  told-where h = Answers.told-where l v h
+
+  -- "the answer gains two numbers, 0 for other codes"
+  pub told-no-fault : code l v ≢ 1 → (step l v .answer .rule ≡ 0) × (step l v .answer .offset ≡ 0)
+  told-no-fault h = Answers.told-no-fault l v h
+
+module _ (l : List ℕ) where
+  -- no fault exactly if accepted, and the number told shows it
+  pub faultless : (accepted l ≡ true) ↔ (fault l ≡ no-fault)
+  faultless = (Where.accepted-no-fault l, λ e. Where.no-fault-accepted l (ap (λ f. f .rule) e))
+
+  pub rule-zero : (accepted l ≡ true) ↔ (fault l .rule ≡ 0)
+  rule-zero = (λ h. ap (λ f. f .rule) (Where.accepted-no-fault l h), Where.no-fault-accepted l)
+
+  -- "the first broken rule, 1 to 8": the rules before the named one hold, and that one does not
+  pub fault-first : (n : ℕ) → fault l .rule ≡ suc n → (getD (rules l) n true ≡ false) × ((k : ℕ) → k < n → getD (rules l) k false ≡ true)
+  fault-first n e = Where.fault-first l n e
+
+  pub rule-known : fault l .rule ≤ 8
+  rule-known = Where.rule-known l
+
+  -- two bytes of an answer hold the offset
+  pub offset-small : fault-offset l < 65536
+  offset-small = Where.offset-small l
+
+  -- "A buffer shorter than 40 bytes gives rule 1 and its length."
+  pub short-buffer : length l < header-size → fault l ≡ at-rule 1 (Site.Header (length l))
+  short-buffer h = Where.short-buffer l h
+
+  -- I1 asks of any other that each of its fields is right
+  pub right-fields : header-size ≤ length l → framed l ≡ all is-right (i1-fields l)
+  right-fields h = Where.right-fields l h
+
+  -- "for I1 the first header byte of the first wrong field"
+  pub wrong-field : fault l .rule ≡ 1 → header-size ≤ length l → Wrong-field (i1-fields l) (fault-offset l)
+  wrong-field e h = rw (Where.wrong-i1 l e) (Where.wrong-field l (Where.fault-first l 0 e .0) h)
+
+  -- "for I2 to I8 the first byte of the lowest record (or table row) that breaks the rule alone or together with lower ones":
+  -- those below the one named keep the rule, and together with it they break it
+  pub wrong-i2 : fault l .rule ≡ 2 → Lowest-at (of-certificates i2 (decode l)) (decode l .trust .certificates) Site.Certificate (fault l .site)
+  wrong-i2 e = Where.wrong-i2 l e
+
+  pub wrong-i4 : fault l .rule ≡ 4 → Lowest-at (of-certificates i4 (decode l)) (decode l .trust .certificates) Site.Certificate (fault l .site)
+  wrong-i4 e = Where.wrong-i4 l e
+
+  pub wrong-i5 : fault l .rule ≡ 5 → Lowest-at (of-certificates i5 (decode l)) (decode l .trust .certificates) Site.Certificate (fault l .site)
+  wrong-i5 e = Where.wrong-i5 l e
+
+  pub wrong-i6 : fault l .rule ≡ 6 → Lowest-at (all row-fits) (decode l .table) Site.Row (fault l .site)
+  wrong-i6 e = Where.wrong-i6 l e
+
+  pub wrong-i7 : fault l .rule ≡ 7 → Lowest-at (of-executables i7 (decode l)) (decode l .executables) Site.Executable (fault l .site)
+  wrong-i7 e = Where.wrong-i7 l e
+
+  pub wrong-i8 : fault l .rule ≡ 8 → Lowest-at (of-executables i8 (decode l)) (decode l .executables) Site.Executable (fault l .site)
+  wrong-i8 e = Where.wrong-i8 l e
+
+  -- of I3 it is one of three: byte 12, a certificate by its place, a card
+  pub wrong-i3 : fault l .rule ≡ 3 → Wrong-card l (fault l .site)
+  wrong-i3 e = Where.wrong-i3 l e
+
+  -- "For card present missing from the table, I3 names byte 12 before any record."
+  pub present-first : fault l .rule ≡ 3 → present-known (decode l) ≡ false → fault l .site ≡ Site.Header 12
+  present-first e a = Where.present-first l e a
+
+  -- and then the certificates, which stand below the cards
+  pub places-next : fault l .rule ≡ 3 → present-known (decode l) ≡ true → places-known (decode l .cards) (decode l .trust .certificates) ≡ false
+      → Lowest-at (places-known (decode l .cards)) (decode l .trust .certificates) Site.Certificate (fault l .site)
+  places-next e a b = Where.places-next l e a b
+
+  pub cards-last : fault l .rule ≡ 3 → present-known (decode l) ≡ true → places-known (decode l .cards) (decode l .trust .certificates) ≡ true
+      → Lowest-at cards-fit (decode l .cards) Site.Card (fault l .site)
+  cards-last e a b = Where.cards-last l e a b
+
+  -- "the first byte of the lowest record (or table row)": the one named is what is read from the offset told
+  pub certificate-begins : (i : ℕ) → fault l .site ≡ Site.Certificate i → certificate-at (decode l) i ≡ certificate-read l (fault-offset l)
+  certificate-begins i e = rw e (Where.certificate-begins l i (subst (Within l) e (Where.fault-within l) .1))
+
+  pub card-begins : (i : ℕ) → fault l .site ≡ Site.Card i → card-at (decode l) i ≡ card-read l (fault-offset l)
+  card-begins i e = rw e (Where.card-begins l i (subst (Within l) e (Where.fault-within l) .1))
+
+  pub executable-begins : (i : ℕ) → fault l .site ≡ Site.Executable i → executable-at (decode l) i ≡ executable-read l (fault-offset l)
+  executable-begins i e = rw e (Where.executable-begins l i (subst (Within l) e (Where.fault-within l) .1))
+
+  pub row-begins : (i : ℕ) → fault l .site ≡ Site.Row i → row-at (decode l) i ≡ row-read l (fault-offset l)
+  row-begins i e = rw e (Where.row-begins l i (subst (Within l) e (Where.fault-within l) .1))

@@ -13,14 +13,18 @@ use Rattle.records.specs.Sizes.{event-size}
 use Rattle.records.specs.Layout.{event-read}
 use Rattle.records.specs.Phone.{Phone, decode, encode}
 use Rattle.records.specs.declared.Event.{Event}
+use Rattle.records.proofs.RoundTrip.{frame}
 use Rattle.rules.specs.declared.Answer.{Answer}
 use Rattle.rules.specs.Words.{first}
-use Rattle.rules.specs.ImageRules.{accepted, «open»}
+use Rattle.rules.specs.declared.Fault.{Fault}
+use Rattle.rules.specs.ImageRules.{broken, accepted}
+use Rattle.rules.specs.Faults.{fault}
 use Rattle.rules.specs.Forms.{with-kind, forms, no-form, malformed}
-use Rattle.rules.specs.Codes.{code-of, refusals, code}
+use Rattle.rules.specs.Codes.{code-of, code}
 use Rattle.rules.specs.Effects.{changed}
-use Rattle.rules.specs.Step.{Outcome, refused, done, step}
-use Rattle.demands.proofs.Bytes.{code-whole, step-refused, accepted-step}
+use Rattle.rules.specs.Step.{Outcome, refused, refused-at, refusal, done, step}
+use Rattle.rules.proofs.Accepts.{accepted-out}
+use Rattle.demands.proofs.Bytes.{code-whole, step-refused, accepted-step, refusal-cases, never-one}
 use Rattle.opening.specs.Opened.{Accepted-image}
 use Rattle.opening.proofs.Promise.{accepted-image}
 use Rattle.events.specs.Stepped.{told, left, Handled, Stepped, Stepped-on}
@@ -82,10 +86,17 @@ no-such-actor l e h x q = handled-refused l e 2 (rw (lt-leb (e .actor) 4 h)) (λ
 
 -- ---- the length, and the image
 
+refusal-other : (l : List ℕ) (c : ℕ) → c ≢ 1 → refusal l c ≡ refused c
+refusal-other l c n = refusal-cases (λ a. a ≡ refused c) l c (λ e. absurd (n e)) (λ n. refl)
+
+still-accepted : (l : List ℕ) → Bytes l → accepted l ≡ true → Accepted-image l
+still-accepted l b h = accepted-image l (frame l b (accepted-out l h .0)) h
+
 module _ (l v : List ℕ) where
   whole-stepped : accepted l ≡ true → length v ≡ event-size → step l v ≡ record { answer = told (decode l) (event-read v 0); image = left l (event-read v 0) }
   unfolding step
-  whole-stepped ok n = ap by-code (code-whole l v ok n) ∙ each (eqb (code-of (decode l) e) 0) (code-of (decode l) e)
+  whole-stepped ok n = ap by-code (code-whole l v ok n) ∙ each (eqb (code-of (decode l) e) 0) (refusal l (code-of (decode l) e))
+      ∙ ap (λ a. record { answer = cond (eqb (code-of (decode l) e) 0) (done e q) a; image = left l e }) other
     where
       e : Event
       e = event-read v 0
@@ -94,32 +105,37 @@ module _ (l v : List ℕ) where
       q = changed e (decode l)
 
       by-code : ℕ → Outcome
-      by-code c = cond (eqb c 0) (record { answer = done e q; image = encode q }) (record { answer = refused c; image = l })
+      by-code c = cond (eqb c 0) (record { answer = done e q; image = encode q }) (record { answer = refusal l c; image = l })
 
-      each : (b : Bool) (c : ℕ) → _≡_ {A = Outcome} (cond b (record { answer = done e q; image = encode q }) (record { answer = refused c; image = l })) (record { answer = cond b (done e q) (refused c); image = cond b (encode q) l })
-      each true c = refl
-      each false c = refl
+      each : (b : Bool) (a : Answer) → _≡_ {A = Outcome} (cond b (record { answer = done e q; image = encode q }) (record { answer = a; image = l }))
+          (record { answer = cond b (done e q) a; image = cond b (encode q) l })
+      each true a = refl
+      each false a = refl
 
-  refused-stepped : (n : ℕ) → n ≡ code l v → n ≢ 0 → (x : Answer) → x ≡ refused n → Stepped l v x l
+      -- code 1 is the image's alone
+      other : refusal l (code-of (decode l) e) ≡ refused (code-of (decode l) e)
+      other = refusal-other l (code-of (decode l) e) (never-one (decode l) e)
+
+  refused-stepped : (n : ℕ) → n ≡ code l v → n ≢ 0 → (x : Answer) → x ≡ refusal l n → Stepped l v x l
   refused-stepped n c h x q =
       let s = step-refused l v (λ z. h (c ∙ z)) in
-      record { answer = q ∙ ap refused c ∙ sym (ap (λ o. o .answer) s); image = sym (ap (λ o. o .image) s) }
+      record { answer = q ∙ ap (refusal l) c ∙ sym (ap (λ o. o .answer) s); image = sym (ap (λ o. o .image) s) }
 
   -- an image that is not accepted
-  pub broken-stepped : (n : ℕ) → n ≡ «open» l → n ≢ 0 → (x : Answer) → x ≡ refused 1 → Stepped l v x l
-  unfolding code first «open»
-  broken-stepped n o h x q = refused-stepped 1 (go (accepted l) (λ z. h (o ∙ z))) (λ z. omega arith) x q
-    where
-      go : (b : Bool) → _≢_ {A = ℕ} (cond b 0 1) 0 → 1 ≡ cond (not b) 1 (cond (not (eqb (length v) event-size)) 2 (first (refusals (decode l) (event-read v 0))))
-      go true f = absurd (f refl)
-      go false f = refl
+  pub broken-stepped : (f : Fault) → f ≡ fault l → f .rule ≢ 0 → (x : Answer) → x ≡ refused-at l → Stepped l v x l
+  unfolding code first accepted fault refusal
+  broken-stepped f o h x q =
+      refused-stepped 1 (rw (ne-eqb (broken l) 0 (λ z. h (ap (λ f. f .rule) o ∙ z)))) (λ z. omega arith) x q
 
   module _ (a : Accepted-image l) where
     -- an event of another length
     pub short-stepped : length v ≢ event-size → (x : Answer) → x ≡ refused 2 → Stepped-on l v x l
     unfolding code first
     short-stepped h x q =
-        record { stepped = refused-stepped 2 (rw (a .accepted, ne-eqb (length v) event-size h)) (λ z. omega arith) x q; accepted = a }
+        record {
+          stepped = refused-stepped 2 (rw (a .accepted, ne-eqb (length v) event-size h)) (λ z. omega arith) x (q ∙ sym (refusal-other l 2 (λ z. omega arith)));
+          accepted = a;
+        }
 
     -- an event that was handled
     pub handled-stepped : length v ≡ event-size → (r : Answer) (l′ : List ℕ) → Bytes l′ → Handled l (event-read v 0) r l′ → Stepped-on l v r l′
@@ -128,5 +144,5 @@ module _ (l v : List ℕ) where
         let k : l′ ≡ step l v .image = h .image ∙ sym (ap (λ o. o .image) s) in
         record {
           stepped = record { answer = h .answer ∙ sym (ap (λ o. o .answer) s); image = k };
-          accepted = accepted-image l′ b (subst (λ m. accepted m ≡ true) (sym k) (accepted-step l v (a .accepted)));
+          accepted = still-accepted l′ b (subst (λ m. accepted m ≡ true) (sym k) (accepted-step l v (a .accepted)));
         }

@@ -25,10 +25,10 @@ use Rattle.events.proofs.Still.{request-unchanged}
 
 -- what is told of an executable
 abbrev of-executable : Trust → Executable → Answer
-of-executable t x = record { code = 0; domain = x .domain; links = links t (x .signing) (x .domain) }
+of-executable t x = record { code = 0; domain = x .domain; links = links t (x .signing) (x .domain); rule = 0; offset = 0 }
 
 abbrev told-of : Chained → Answer
-told-of r = record { code = 0; domain = r .domain; links = r .links }
+told-of r = record { code = 0; domain = r .domain; links = r .links; rule = 0; offset = 0 }
 
 module _ (p : Phone) (ok : Accepted p) (e : Event) (slot : ℕ) (place : slot ≡ first-place (is-executable (e .id)) (p .executables)) where
   at-slot : executable-named p (e .id) ≡ executable-at p slot
@@ -36,7 +36,7 @@ module _ (p : Phone) (ok : Accepted p) (e : Event) (slot : ℕ) (place : slot �
   at-slot = place-find (is-executable (e .id)) no-executable (p .executables) ∙ ap (executable-at p) (sym place)
 
   pub verify-tells : slot < length (p .executables) → (r : Chained) → r ≡ chain-of (p .trust) (executable-at p slot .signing)
-      → record { code = 0; domain = r .domain; links = r .links } ≡ done (with-kind 12 e) (changed (with-kind 12 e) p)
+      → record { code = 0; domain = r .domain; links = r .links; rule = 0; offset = 0 } ≡ done (with-kind 12 e) (changed (with-kind 12 e) p)
   unfolding done chain-of executable-known
   verify-tells h r q =
       let k : T (executable-known p (e .id)) = true-T _ (place-some (is-executable (e .id)) (p .executables) place refl h) in
@@ -53,10 +53,11 @@ module _ (p : Phone) (ok : Accepted p) (e : Event) (slot : ℕ) (place : slot �
       ∙ ap (λ s. of-executable (s .trust) (executable-named s (e .id))) (sym (request-unchanged p ok e))
 
   pub request-tells : (x : Executable) → x ≡ executable-at p slot → (n : ℕ) → n ≡ links (p .trust) (x .signing) (x .domain)
-      → record { code = 0; domain = x .domain; links = n } ≡ done (with-kind 15 e) (changed (with-kind 15 e) p)
-  request-tells x q n i = ap (λ m. record { code = 0; domain = x .domain; links = m }) i ∙ ap (of-executable (p .trust)) q ∙ unchanged-tells
+      → record { code = 0; domain = x .domain; links = n; rule = 0; offset = 0 } ≡ done (with-kind 15 e) (changed (with-kind 15 e) p)
+  request-tells x q n i =
+      ap (λ m. record { code = 0; domain = x .domain; links = m; rule = 0; offset = 0 }) i ∙ ap (of-executable (p .trust)) q ∙ unchanged-tells
 
   pub request-untrusted : (x : Executable) → x ≡ executable-at p slot → x .domain ≡ 0 → refused 0 ≡ done (with-kind 15 e) (changed (with-kind 15 e) p)
   request-untrusted x q z =
-      ap (λ d. record { code = 0; domain = d; links = 0 }) (sym z)
+      ap (λ d. record { code = 0; domain = d; links = 0; rule = 0; offset = 0 }) (sym z)
       ∙ request-tells x q 0 (sym (none-links (p .trust) (x .signing) (x .domain) z))

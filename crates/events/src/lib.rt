@@ -24,6 +24,8 @@ fn refused(code: u8) -> Answer
         code,
         domain: 0,
         links: 0,
+        rule: 0,
+        offset: 0,
     }
 }
 
@@ -234,6 +236,8 @@ fn verify(s: &mut [u8], e: Event) -> Answer
         code: 0,
         domain: told.domain,
         links: told.links,
+        rule: 0,
+        offset: 0,
     }
 }
 
@@ -281,6 +285,8 @@ fn request(s: &[u8], e: Event) -> Answer
         code: 0,
         domain: x.domain,
         links: chain::links_of(s, x.signing, x.domain),
+        rule: 0,
+        offset: 0,
     }
 }
 
@@ -331,8 +337,9 @@ pub fn step_on(s: &mut [u8], v: &[u8]) -> Answer
 pub fn step(s: &mut [u8], v: &[u8]) -> Answer
     ensures { λ r. ⌜ Stepped (now (s .entry)) (now (v .entry)) r (now (s .exit)) ⌝ }
 {
-    if opening::open(s) != 0 {
-        return refused(1);
+    let fault = opening::open(s);
+    if fault.rule != 0 {
+        return opening::refused_at(s, fault);
     }
     step_on(s, v)
 }

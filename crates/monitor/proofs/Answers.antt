@@ -1,8 +1,9 @@
--- Each part of an answer is a byte, and an answer can be read back from the number and from the bytes that it is told as. Assumes nothing.
-use Prim.Native.Nat.{ℕ, zero, suc, _+_, _-_, _*_, _≤_, _<_}
+-- Each part of an answer fits the bytes that it is told in, and an answer can be read back from the number and from the bytes. Assumes nothing.
+use Prim.Native.Nat.{ℕ, zero, suc, _+_, _*_, _/_, _%_, _≤_, _<_}
 use mathlib.Core.Bool.{Bool, true, false, cond, _&&_, _||_}
 use mathlib.Core.List.{List, [], _∷_, _++_, List·Memᴰ, List·Memᴰ·head, List·Memᴰ·tail}
-use mathlib.Core.Path.{_≡_, refl, sym, ap, ap₂, _∙_, subst}
+use mathlib.Core.Logic.{_≢_}
+use mathlib.Core.Path.{_≡_, refl, sym, ap, _∙_}
 use native.Mathlib.Nat.{add-zero, zero-add, zero-mul}
 use native.Mathlib.Omega.{arith}
 use lib.Dec.{T, eqb, leb, leb→le}
@@ -14,27 +15,34 @@ use Rattle.records.specs.Phone.{Phone, decode, joined}
 use Rattle.records.specs.declared.Event.{Event}
 use Rattle.records.proofs.Joined.{read-joined}
 use Rattle.rules.specs.Words.{Check, _⇒_, first, find}
+use Rattle.rules.specs.ImageRules.{accepted, «open»}
+use Rattle.rules.specs.Faults.{fault, fault-offset}
 use Rattle.rules.specs.Chains.{most-links, links}
 use Rattle.rules.specs.Codes.{executable-named, rows, code}
 use Rattle.rules.specs.Effects.{changed}
 use Rattle.rules.specs.declared.Answer.{Answer}
-use Rattle.rules.specs.Step.{refused, done, step, run, answers}
+use Rattle.rules.specs.Step.{refused, refused-at, refusal, done, step, run, answers}
 use Rattle.rules.proofs.Tests.{and-l, and-r, si}
 use Rattle.rules.proofs.Accepted.{Accepted}
 use Rattle.rules.proofs.Accepts.{accepted-out}
 use Rattle.rules.proofs.Shortest.{links-small}
+use Rattle.rules.proofs.Where.{accepted-no-fault, rule-known, offset-small}
 use Rattle.demands.specs.Runs.{event-of}
-use Rattle.demands.proofs.Bytes.{step-cases, code-whole-out}
+use Rattle.demands.proofs.Bytes.{step-cases, step-refused, refusal-cases, code-whole-out}
 use Rattle.demands.proofs.Kept.{accepted-changed}
+use Rattle.demands.proofs.Answers.{zero-if}
 use Rattle.demands.proofs.Grant.{small-domain}
-use Rattle.monitor.specs.Told.{packed, told-code, told-domain, told-links, answer-size, answer-bytes, answer-from, answer-at, events-of}
+use Rattle.monitor.specs.Told.{packed, opened, told-code, told-domain, told-links, told-rule, told-offset}
+use Rattle.monitor.specs.Told.{answer-size, answer-bytes, answer-from, answer-at, events-of}
 
--- ---- every part is a byte
+-- ---- every part is a byte, and the offset is two
 
 pub record Small (a : Answer) : Type 0 where
   pub code : a .code ≤ 16
   pub domain : a .domain ≤ 3
   pub links : a .links ≤ most-links
+  pub rule : a .rule ≤ 8
+  pub offset : a .offset < 65536
 
 -- no number of a table is above m
 abbrev none-above : ℕ → List Check → Bool
@@ -47,9 +55,16 @@ first-small m [] h = omega arith
 first-small m ((true ⇒ n) ∷ l) h = leb→le n m (and-l (leb n m) (none-above m l) h)
 first-small m ((false ⇒ n) ∷ l) h = first-small m l (and-r (leb n m) (none-above m l) h)
 
-refused-small : (l v : List ℕ) → Small (refused (code l v))
+-- an answer that is a code alone
+code-small : (c : ℕ) → c ≤ 16 → Small (refused c)
+code-small c h = record { code = h; domain = omega arith; links = omega arith; rule = omega arith; offset = omega arith }
+
+fault-small : (l : List ℕ) → Small (refused-at l)
+fault-small l = record { code = omega arith; domain = omega arith; links = omega arith; rule = rule-known l; offset = offset-small l }
+
+refused-small : (l v : List ℕ) → Small (refusal l (code l v))
 unfolding code
-refused-small l v = record { code = first-small 16 (rows l v) tt; domain = omega arith; links = omega arith }
+refused-small l v = refusal-cases Small l (code l v) (λ e. fault-small l) (λ n. code-small (code l v) (first-small 16 (rows l v) tt))
 
 -- what is found is the one that stands for none, or one of the list
 found : {A : Type 0} (P : A → Type 0) (t : A → Bool) (d : A) (l : List A) → P d → ((x : A) → List·Memᴰ x l → P x) → P (find t d l)
@@ -66,15 +81,21 @@ unfolding executable-named
 named-small p ok n = found (λ x. x .domain ≤ 3) _ _ (p .executables) (omega arith) (small-domain p ok)
 
 -- of a verify and a request, and of any other that is done
-told-small : (p : Phone) → Accepted p → (n : ℕ) (b : Bool)
-    → Small (cond b (record { code = 0; domain = executable-named p n .domain; links = links (p .trust) (executable-named p n .signing) (executable-named p n .domain) }) (refused 0))
+abbrev told-named : Phone → ℕ → Answer
+told-named p n =
+    let x = executable-named p n in
+    record { code = 0; domain = x .domain; links = links (p .trust) (x .signing) (x .domain); rule = 0; offset = 0 }
+
+told-small : (p : Phone) → Accepted p → (n : ℕ) (b : Bool) → Small (cond b (told-named p n) (refused 0))
 told-small p ok n true =
     record {
       code = omega arith;
       domain = named-small p ok n;
       links = links-small (p .trust) (executable-named p n .signing) (executable-named p n .domain);
+      rule = omega arith;
+      offset = omega arith;
     }
-told-small p ok n false = record { code = omega arith; domain = omega arith; links = omega arith }
+told-small p ok n false = code-small 0 (omega arith)
 
 done-small : (e : Event) (p : Phone) → Accepted p → Small (done e p)
 unfolding done
@@ -90,12 +111,66 @@ answer-small l v =
 
 -- ---- read back from the number
 
-pub unpacked : (a : Answer) → Small a → (told-code (packed a) ≡ a .code) × (told-domain (packed a) ≡ a .domain) × (told-links (packed a) ≡ a .links)
+pub unpacked : (a : Answer) → Small a
+    → (told-code (packed a) ≡ a .code)
+    × (told-domain (packed a) ≡ a .domain)
+    × (told-links (packed a) ≡ a .links)
+    × (told-rule (packed a) ≡ a .rule)
+    × (told-offset (packed a) ≡ a .offset)
 unpacked a s =
     let c : a .code ≤ 16 = s .code in
     let d : a .domain ≤ 3 = s .domain in
     let k : a .links ≤ 4 = s .links in
-    (omega arith, omega arith, omega arith)
+    let r : a .rule ≤ 8 = s .rule in
+    let o : a .offset < 65536 = s .offset in
+    (omega arith, omega arith, omega arith, omega arith, omega arith)
+
+-- the lowest three bytes are what they are without rule and offset
+pub low-bits : (a : Answer) → a .code < 256 → a .domain < 256 → a .links < 256
+    → packed a % 16777216 ≡ (a .code * 256 + a .domain) * 256 + a .links
+low-bits a c d k = omega arith
+
+-- ---- what opening tells
+
+module _ (l : List ℕ) where
+  pub opened-small : Small (opened l)
+  unfolding opened
+  opened-small = go (accepted l)
+    where
+      go : (b : Bool) → Small (cond b (refused 0) (refused-at l))
+      go true = code-small 0 (omega arith)
+      go false = fault-small l
+
+  -- accepted or not: an accepted image has no fault
+  pub opened-told : opened l ≡ record { code = «open» l; domain = 0; links = 0; rule = fault l .rule; offset = fault-offset l }
+  unfolding opened «open»
+  opened-told = go (accepted l) refl
+    where
+      go : (b : Bool) → accepted l ≡ b
+          → cond b (refused 0) (refused-at l) ≡ record { code = zero-if b; domain = 0; links = 0; rule = fault l .rule; offset = fault-offset l }
+      go true e = rw (accepted-no-fault l e) refl
+      go false e = refl
+
+  pub opened-whole : accepted l ≡ true → opened l ≡ refused 0
+  unfolding opened
+  opened-whole e = rw e refl
+
+  pub open-one : accepted l ≢ true → «open» l ≡ 1
+  unfolding «open»
+  open-one n = go (accepted l) n
+    where
+      go : (b : Bool) → b ≢ true → zero-if b ≡ 1
+      go true n = absurd (n refl)
+      go false n = refl
+
+-- ---- what a refusal tells
+
+-- the domain and the links of an event that is not done
+pub refused-quiet : (l v : List ℕ) → code l v ≢ 0
+    → (step l v .image ≡ l) × (step l v .answer .domain ≡ 0) × (step l v .answer .links ≡ 0)
+refused-quiet l v h =
+    let q = refusal-cases (λ a. (a .domain ≡ 0) × (a .links ≡ 0)) l (code l v) (λ e. (refl, refl)) (λ n. (refl, refl)) in
+    rw (step-refused l v h) (refl, q .0, q .1)
 
 -- ---- read back from a buffer
 
@@ -118,11 +193,14 @@ nth-answer (suc n) l b d (suc i) h =
 
 answer-there : (xs ys : List ℕ) (a : Answer) → answer-from (xs ++ (answer-bytes a ++ ys)) (length xs) ≡ a
 answer-there xs ys a =
-    let at : (k : ℕ) → getD (xs ++ (answer-bytes a ++ ys)) (length xs + k) 0 ≡ getD (answer-bytes a ++ ys) k 0 = λ k. getD-append-add xs (answer-bytes a ++ ys) k 0 in
-    rw (ap (λ (n : ℕ). getD (xs ++ (answer-bytes a ++ ys)) n 0) (sym (add-zero (length xs))) ∙ at 0, at 1, at 2) refl
+    let l = xs ++ (answer-bytes a ++ ys) in
+    let at : (k : ℕ) → getD l (length xs + k) 0 ≡ getD (answer-bytes a ++ ys) k 0 = λ k. getD-append-add xs (answer-bytes a ++ ys) k 0 in
+    let two : a .offset / 256 * 256 + a .offset % 256 ≡ a .offset = omega arith in
+    rw (ap (λ (n : ℕ). getD l n 0) (sym (add-zero (length xs))) ∙ at 0, at 1, at 2, at 3, at 4, at 5, two) refl
 
 pub nth-told : (l b out : List ℕ) (n i : ℕ) → i < n
-    → answer-at (put out 0 (joined answer-bytes (answers l (events-of b n)))) i ≡ step (run l (events-of b i)) (take event-size (drop (i * event-size) b)) .answer
+    → answer-at (put out 0 (joined answer-bytes (answers l (events-of b n)))) i
+    ≡ step (run l (events-of b i)) (take event-size (drop (i * event-size) b)) .answer
 unfolding put
 nth-told l b out n i h =
     let cs = answers l (events-of b n) in

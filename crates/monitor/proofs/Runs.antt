@@ -1,6 +1,6 @@
 -- Laws of a run: what is left of it shrinks by an event at a time. Assumes nothing.
 use Prim.Native.Nat.{ℕ, zero, suc, _+_, _-_, _*_, _/_, _%_, _≤_, _<_}
-use mathlib.Core.Bool.{Bool, true, false, cond}
+use mathlib.Core.Bool.{Bool, cond}
 use mathlib.Core.List.{List, [], _∷_}
 use mathlib.Core.Logic.{_≢_}
 use mathlib.Core.Path.{_≡_, refl, sym, ap, ap₂, _∙_, subst}
@@ -16,12 +16,16 @@ use Rattle.records.specs.Sizes.{event-size}
 use Rattle.records.specs.Phone.{joined}
 use Rattle.records.proofs.Puts.{put-next}
 use Rattle.rules.specs.declared.Answer.{Answer}
-use Rattle.rules.specs.ImageRules.{«open»}
-use Rattle.rules.specs.Step.{refused, step, run, answers}
+use Rattle.rules.specs.declared.Fault.{Fault}
+use Rattle.rules.specs.ImageRules.{broken, accepted}
+use Rattle.rules.specs.Faults.{fault}
+use Rattle.rules.specs.Step.{refused-at, run, answers}
 use Rattle.rules.proofs.Tests.{by-test, is, isnt}
+use Rattle.opening.specs.Opened.{Accepted-image, Opened}
 use Rattle.events.specs.Stepped.{Stepped, Stepped-on}
 use Rattle.events.proofs.Steps.{broken-stepped}
-use Rattle.monitor.specs.Told.{answer-size, answer-bytes, events-of, event-count, answered, Followed}
+use Rattle.monitor.specs.Told as Told
+use Rattle.monitor.specs.Told.{packed, opened, answer-size, answer-bytes, events-of, event-count, answered, Followed}
 
 -- ---- how many events there are, and the one that may be short
 
@@ -118,49 +122,68 @@ module _ (l₀ b out₀ : List ℕ) (n : ℕ) where
         told = sym (put-none out (i * answer-size)) ∙ sym (ap (λ (vs : List (List ℕ)). told-by out i (answers l vs)) k) ∙ f .told;
       }
 
+-- ---- one event
+
+pub packed-stepped : (l v : List ℕ) (r : ℕ) (a : Answer) (l′ : List ℕ) → r ≡ packed a → Stepped l v a l′ → Told.Stepped l v r l′
+packed-stepped l v r a l′ q s = record { answer = q ∙ ap packed (s .answer); image = s .image }
+
+-- ---- opening
+
+module _ (l : List ℕ) (f : Fault) (e : f ≡ fault l) where
+  pub opened-broken : (r : ℕ) (a : Answer) → r ≡ packed a → a ≡ refused-at l → f .rule ≢ 0 → r ≡ packed (opened l)
+  unfolding opened accepted fault
+  opened-broken r a q t h = q ∙ ap packed (t ∙ rw (ne-eqb (broken l) 0 (λ z. h (ap (λ f. f .rule) e ∙ z))))
+
+  pub opened-whole : f .rule ≡ 0 → 0 ≡ packed (opened l)
+  unfolding opened accepted fault
+  opened-whole z = rw (eq-eqb (broken l) 0 (sym (ap (λ f. f .rule) e) ∙ z))
+
 -- ---- an image that is not accepted
 
-module _ (l : List ℕ) (o : ℕ) (e : o ≡ «open» l) (h : o ≢ 0) where
-  still : (v : List ℕ) → Stepped l v (refused 1) l
-  still v = broken-stepped l v o e h (refused 1) refl
+module _ (l : List ℕ) (f : Fault) (e : f ≡ fault l) (h : f .rule ≢ 0) where
+  still : (v : List ℕ) → Stepped l v (refused-at l) l
+  still v = broken-stepped l v f e h (refused-at l) refl
 
   broken-run : (vs : List (List ℕ)) → run l vs ≡ l
   unfolding run
   broken-run [] = refl
   broken-run (v ∷ vs) = ap (λ (x : List ℕ). run x vs) (sym (still v .image)) ∙ broken-run vs
 
-  broken-answers : (n : ℕ) (b : List ℕ) → answers l (events-of b n) ≡ replicate n (refused 1)
+  broken-answers : (n : ℕ) (b : List ℕ) → answers l (events-of b n) ≡ replicate n (refused-at l)
   unfolding answers
   broken-answers zero b = refl
   broken-answers (suc n) b =
       let s = still (take event-size b) in
       ap₂ (λ (a : Answer) (x : List ℕ). a ∷ answers x (events-of (drop event-size b) n)) (sym (s .answer)) (sym (s .image))
-      ∙ ap (λ (rs : List Answer). refused 1 ∷ rs) (broken-answers n (drop event-size b))
+      ∙ ap (λ (rs : List Answer). refused-at l ∷ rs) (broken-answers n (drop event-size b))
 
-  pub broken-followed : (b out out′ : List ℕ) (n : ℕ) → out′ ≡ put out 0 (joined answer-bytes (replicate n (refused 1))) → Followed l b out n l out′
-  broken-followed b out out′ n t =
+  pub broken-followed : (b out out′ : List ℕ) (n : ℕ) (a : Answer) → a ≡ refused-at l
+      → out′ ≡ put out 0 (joined answer-bytes (replicate n a)) → Followed l b out n l out′
+  broken-followed b out out′ n a q t =
       record {
         image = sym (broken-run (events-of b n));
-        told = t ∙ sym (ap (λ (rs : List Answer). put out 0 (joined answer-bytes rs)) (broken-answers n b));
+        told =
+            t ∙ ap (λ (x : Answer). put out 0 (joined answer-bytes (replicate n x))) q
+            ∙ sym (ap (λ (rs : List Answer). put out 0 (joined answer-bytes rs)) (broken-answers n b));
       }
 
--- what is left of n refusals behind the first i
-pub record Untold (out₀ : List ℕ) (n : ℕ) (out : List ℕ) (i : ℕ) : Type 0 where
+-- what is left of n refusals behind the first i, each told by a
+pub record Untold (a : Answer) (out₀ : List ℕ) (n : ℕ) (out : List ℕ) (i : ℕ) : Type 0 where
   pub within : i ≤ n
-  pub told : told-by out i (replicate (n - i) (refused 1)) ≡ told-by out₀ 0 (replicate n (refused 1))
+  pub told : told-by out i (replicate (n - i) a) ≡ told-by out₀ 0 (replicate n a)
   pub room : length out ≡ length out₀
 
-module _ (out₀ : List ℕ) (n : ℕ) where
-  pub untold-all : Untold out₀ n out₀ 0
+module _ (a : Answer) (out₀ : List ℕ) (n : ℕ) where
+  pub untold-all : Untold a out₀ n out₀ 0
   untold-all =
       record {
         within = omega arith;
-        told = ap (λ (m : ℕ). told-by out₀ 0 (replicate m (refused 1))) (sub-zero n);
+        told = ap (λ (m : ℕ). told-by out₀ 0 (replicate m a)) (sub-zero n);
         room = refl;
       }
 
-  pub untold-less : (out : List ℕ) (i : ℕ) → Untold out₀ n out i → i < n → n * answer-size ≤ length out₀
-      → (out′ : List ℕ) → out′ ≡ put out (i * answer-size) (answer-bytes (refused 1)) → Untold out₀ n out′ (i + 1)
+  pub untold-less : (out : List ℕ) (i : ℕ) → Untold a out₀ n out i → i < n → n * answer-size ≤ length out₀
+      → (out′ : List ℕ) → out′ ≡ put out (i * answer-size) (answer-bytes a) → Untold a out₀ n out′ (i + 1)
   untold-less out i f h m out′ o =
       let k : n - i ≡ suc (n - (i + 1)) = omega arith in
       let room : length out ≡ length out₀ = f .room in
@@ -168,18 +191,18 @@ module _ (out₀ : List ℕ) (n : ℕ) where
       record {
         within = omega arith;
         told =
-            ap (λ (x : List ℕ). told-by x (i + 1) (replicate (n - (i + 1)) (refused 1))) o
-            ∙ tell-next out i (refused 1) (replicate (n - (i + 1)) (refused 1)) (omega arith)
-            ∙ sym (ap (λ (m : ℕ). told-by out i (replicate m (refused 1))) k)
+            ap (λ (x : List ℕ). told-by x (i + 1) (replicate (n - (i + 1)) a)) o
+            ∙ tell-next out i a (replicate (n - (i + 1)) a) (omega arith)
+            ∙ sym (ap (λ (m : ℕ). told-by out i (replicate m a)) k)
             ∙ f .told;
-        room = ap length o ∙ length-put out (i * answer-size) (answer-bytes (refused 1)) h′ ∙ room;
+        room = ap length o ∙ length-put out (i * answer-size) (answer-bytes a) h′ ∙ room;
       }
 
-  pub untold-none : (out : List ℕ) (i : ℕ) → Untold out₀ n out i → n ≤ i → out ≡ put out₀ 0 (joined answer-bytes (replicate n (refused 1)))
+  pub untold-none : (out : List ℕ) (i : ℕ) → Untold a out₀ n out i → n ≤ i → out ≡ put out₀ 0 (joined answer-bytes (replicate n a))
   untold-none out i f h =
       let w : i ≤ n = f .within in
       let z : n - i ≡ 0 = omega arith in
-      sym (put-none out (i * answer-size)) ∙ sym (ap (λ (m : ℕ). told-by out i (replicate m (refused 1))) z) ∙ f .told
+      sym (put-none out (i * answer-size)) ∙ sym (ap (λ (m : ℕ). told-by out i (replicate m a)) z) ∙ f .told
 
 -- ---- how many there is room for
 
@@ -193,5 +216,13 @@ counted n =
 pub answered-room : (n m : ℕ) → answered n m * answer-size ≤ m
 answered-room n m = omega arith
 
-pub answered-events : (n m : ℕ) → answered n m * event-size ≤ n + event-size
-answered-events n m = let c = counted n in omega arith
+-- what a run asks of an image that was opened, and of the number of events
+pub opened-accepted : (l : List ℕ) (f : Fault) → Opened l f → f .rule ≡ 0 → Accepted-image l
+opened-accepted l f o z = o .promise z
+
+module _ (n m k : ℕ) (c : k ≡ answered n m) where
+  pub within-events : k * event-size ≤ n + event-size
+  within-events = let e = counted n in omega arith
+
+  pub within-room : k * answer-size ≤ m
+  within-room = let r = answered-room n m in omega arith

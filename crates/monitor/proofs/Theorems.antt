@@ -1,9 +1,11 @@
 -- WHAT A CALLER READS. Each sentence of bindings/monitor.h with its statement; the files cited hold the arguments. Assumes nothing.
--- l is an image, v an event, b a buffer of events and out one for answers, all of them any bytes; l′ and out′ are what stands there after the call, r is its result.
+-- l is an image, v an event, b a buffer of events and out one for answers, all of them any bytes;
+-- l′ and out′ are what stands there after the call, r is its result.
 -- What the statements speak of: `step`, `run` (rules, specs/Step), `code` (rules, specs/Codes), and here specs/Told.
-use Prim.Native.Nat.{ℕ, _+_, _*_, _≤_, _<_}
+use Prim.Native.Nat.{ℕ, _+_, _*_, _%_, _≤_, _<_}
+use mathlib.Core.Bool.{true}
 use mathlib.Core.List.{List, _++_}
-use mathlib.Core.Logic.{_≢_}
+use mathlib.Core.Logic.{_≢_, _↔_}
 use mathlib.Core.Path.{_≡_, refl, sym, ap, _∙_}
 use native.Mathlib.Omega.{arith}
 use lib.ListN.{length, getD, take, drop}
@@ -13,36 +15,90 @@ use Rattle.records.specs.Sizes.{event-size}
 use Rattle.records.specs.Phone.{joined}
 use Rattle.records.proofs.Joined.{length-joined}
 use Rattle.rules.specs.declared.Answer.{Answer}
+use Rattle.rules.specs.ImageRules.{accepted, «open»}
+use Rattle.rules.specs.Faults.{fault, fault-offset}
 use Rattle.rules.specs.Codes.{code}
 use Rattle.rules.specs.Step.{refused, step, run, answers}
-use Rattle.demands.proofs.Bytes.{step-refused}
-use Rattle.demands.proofs.Answers.{answer-code}
-use Rattle.monitor.specs.Told.{packed, told-code, told-domain, told-links, Stepped, answer-size, answer-bytes, answer-at, events-of, event-count, answered, Ran}
+use Rattle.rules.proofs.Where.{no-fault-accepted, rule-known}
+use Rattle.demands.proofs.Answers.{answer-code, told-where, told-no-fault}
+use Rattle.monitor.specs.Told.{packed, opened, told-code, told-domain, told-links, told-rule, told-offset, Stepped}
+use Rattle.monitor.specs.Told.{answer-size, answer-bytes, answer-at, events-of, event-count, answered, Ran}
 use Rattle.monitor.proofs.Runs.{counted, answered-room}
 use Rattle.monitor.proofs.Answers as Answers
+
+-- ==== the number that monitor_open and monitor_step answer
+
+-- code, domain and links stand in its lowest three bytes, where they stood before rule and offset came above them
+pub low-bits-as-before : (a : Answer) → a .code < 256 → a .domain < 256 → a .links < 256
+    → packed a % 16777216 ≡ (a .code * 256 + a .domain) * 256 + a .links
+low-bits-as-before a c d k = Answers.low-bits a c d k
+
+-- ==== monitor_open
+
+module _ (l : List ℕ) (r : ℕ) (o : r ≡ packed (opened l)) where
+  -- "code 1, domain 0 and links 0, the first broken rule, 1 to 8, and an offset": what the shifts give, and 0 for all of them where no rule is broken
+  pub open-read : (told-code r ≡ «open» l)
+      × (told-domain r ≡ 0)
+      × (told-links r ≡ 0)
+      × (told-rule r ≡ fault l .rule)
+      × (told-offset r ≡ fault-offset l)
+  open-read =
+      let u = Answers.unpacked (opened l) (Answers.opened-small l) in
+      let t = Answers.opened-told l in
+      rw o
+      (u .0 ∙ ap (λ a. a .code) t, u .1 ∙ ap (λ a. a .domain) t, u .2 ∙ ap (λ a. a .links) t, u .3 ∙ ap (λ a. a .rule) t, u .4 ∙ ap (λ a. a .offset) t)
+
+  -- "0 where the bytes are an image that keeps every rule", and nowhere else
+  pub open-zero : (r ≡ 0) ↔ (accepted l ≡ true)
+  open-zero =
+      (λ z. no-fault-accepted l (sym (open-read .3) ∙ ap told-rule z), λ a. o ∙ ap packed (Answers.opened-whole l a))
+
+  -- "code 1", "the first broken rule, 1 to 8"
+  pub open-refused : r ≢ 0 → (told-code r ≡ 1) × (told-rule r ≢ 0) × (told-rule r ≤ 8)
+  open-refused n =
+      let t = open-read in
+      let a : accepted l ≢ true = λ a. n (open-zero .1 a) in
+      (t .0 ∙ Answers.open-one l a, λ z. a (no-fault-accepted l (sym (t .3) ∙ z)), rw (t .3) (rule-known l))
 
 -- ==== monitor_step
 
 module _ (l v : List ℕ) (r : ℕ) (l′ : List ℕ) (s : Stepped l v r l′) where
   -- "The parts of what monitor_step answers": what the shifts give is the answer of the rules
-  pub step-read : (told-code r ≡ step l v .answer .code) × (told-domain r ≡ step l v .answer .domain) × (told-links r ≡ step l v .answer .links)
+  pub step-read : (told-code r ≡ step l v .answer .code)
+      × (told-domain r ≡ step l v .answer .domain)
+      × (told-links r ≡ step l v .answer .links)
+      × (told-rule r ≡ step l v .answer .rule)
+      × (told-offset r ≡ step l v .answer .offset)
   step-read = rw (s .answer) (Answers.unpacked (step l v .answer) (Answers.answer-small l v))
+
+  code-read : told-code r ≡ code l v
+  code-read = step-read .0 ∙ answer-code l v
 
   -- "every code but 0 leaves the image byte for byte and has domain 0 and links 0"
   pub step-kept : told-code r ≢ 0 → (l′ ≡ l) × (told-domain r ≡ 0) × (told-links r ≡ 0)
   step-kept n =
       let t = step-read in
-      let e = step-refused l v (λ z. n (t .0 ∙ answer-code l v ∙ z)) in
-      (s .image ∙ ap (λ o. o .image) e, t .1 ∙ ap (λ o. o .answer .domain) e, t .2 ∙ ap (λ o. o .answer .links) e)
+      let q = Answers.refused-quiet l v (λ z. n (code-read ∙ z)) in
+      (s .image ∙ q .0, t .1 ∙ q .1, t .2 ∙ q .2)
+
+  -- "Rule and offset are 0 for every code but 1, where they are those of monitor_open."
+  pub step-where : (told-code r ≢ 1 → (told-rule r ≡ 0) × (told-offset r ≡ 0))
+      × (told-code r ≡ 1 → (told-rule r ≡ fault l .rule) × (told-offset r ≡ fault-offset l))
+  step-where =
+      let t = step-read in (
+        λ n. let q = told-no-fault l v (λ z. n (code-read ∙ z)) in (t .3 ∙ q .0, t .4 ∙ q .1),
+        λ z. let e = told-where l v (sym code-read ∙ z) in (t .3 ∙ ap (λ a. a .rule) e, t .4 ∙ ap (λ a. a .offset) e),
+      )
 
 -- ==== monitor_run
 
--- "An answer is three bytes: code, domain, links."
+-- "An answer is six bytes: code, domain, links, rule, and the offset, high byte first."
 pub answer-length : (a : Answer) → length (answer-bytes a) ≡ answer-size
 answer-length a = refl
 
 module _ (l b out : List ℕ) (r : ℕ) (l′ out′ : List ℕ) (s : Ran l b out r l′ out′) where
-  -- "The events of a buffer one after the other, as monitor_step would answer them": the i-th answer is that of the i-th event on the image after those before it
+  -- "The events of a buffer one after the other, as monitor_step would answer them":
+  -- the i-th answer is that of the i-th event on the image after those before it
   pub run-read : (i : ℕ) → i < r → answer-at out′ i ≡ step (run l (events-of b i)) (take event-size (drop (i * event-size) b)) .answer
   run-read i h = ap (λ (o : List ℕ). answer-at o i) (s .followed .told) ∙ Answers.nth-told l b out r i h
 
@@ -53,9 +109,10 @@ module _ (l b out : List ℕ) (r : ℕ) (l′ out′ : List ℕ) (s : Ran l b ou
       let e = Answers.length-answers r l b in
       let c : r ≡ answered (length b) (length out) = s .count in
       let m : answered (length b) (length out) * answer-size ≤ length out = answered-room (length b) (length out) in
-      ap (λ (o : List ℕ). getD o k 0) (s .followed .told) ∙ getD-put-after out 0 (joined answer-bytes (answers l (events-of b r))) k (omega arith) (omega arith)
+      ap (λ (o : List ℕ). getD o k 0) (s .followed .told)
+      ∙ getD-put-after out 0 (joined answer-bytes (answers l (events-of b r))) k (omega arith) (omega arith)
 
--- "It stops where the events end or the answers have no room for three bytes more": there is room for every answer, there are no more of them than events,
+-- "It stops where the events end or the answers have no room for six bytes more": there is room for every answer, there are no more of them than events,
 module _ (n m : ℕ) where
   pub answered-fits : answered n m * answer-size ≤ m
   answered-fits = answered-room n m
@@ -80,7 +137,10 @@ goes-on l b n m = (Answers.run-further l b n m, Answers.answers-further l b n m)
 -- ==== computed
 
 abbrev granted : Answer
-granted = record { code = 0; domain = 1; links = 2 }
+granted = record { code = 0; domain = 1; links = 2; rule = 0; offset = 0 }
+
+abbrev damaged : Answer
+damaged = record { code = 1; domain = 0; links = 0; rule = 4; offset = 88 }
 
 -- a grant to an operator's application over two links, and a request that the table refuses
 pub packed-granted : (packed granted ≡ 0x000102) × (told-code 0x000102 ≡ 0) × (told-domain 0x000102 ≡ 1) × (told-links 0x000102 ≡ 2)
@@ -89,15 +149,31 @@ packed-granted = (refl, refl, refl, refl)
 pub packed-refused : (packed (refused 15) ≡ 0x0f0000) × (told-code 0x0f0000 ≡ 15) × (told-domain 0x0f0000 ≡ 0) × (told-links 0x0f0000 ≡ 0)
 packed-refused = (refl, refl, refl, refl)
 
+-- an image whose third certificate breaks I4
+pub packed-damaged : (packed damaged ≡ 0x0058_04_010000)
+    × (told-code 0x0058_04_010000 ≡ 1)
+    × (told-domain 0x0058_04_010000 ≡ 0)
+    × (told-links 0x0058_04_010000 ≡ 0)
+    × (told-rule 0x0058_04_010000 ≡ 4)
+    × (told-offset 0x0058_04_010000 ≡ 88)
+packed-damaged = (refl, refl, refl, refl, refl, refl)
+
 -- the bytes of a grant, and the second answer of two
-pub bytes-granted : (answer-bytes granted ≡ bytes 3 0x00_01_02) × (answer-at (bytes 6 0x0f_00_00_00_01_02) 1 ≡ granted)
+pub bytes-granted : (answer-bytes granted ≡ bytes 6 0x00_01_02_00_00_00) × (answer-at (bytes 12 0x0f_00_00_00_00_00_00_01_02_00_00_00) 1 ≡ granted)
 bytes-granted = (refl, refl)
 
+-- those of a damaged image, told at both of two events, and an offset that needs its high byte
+pub bytes-damaged : (answer-bytes damaged ≡ bytes 6 0x01_00_00_04_00_58) × (answer-at (bytes 12 0x01_00_00_04_00_58_01_00_00_04_00_58) 1 ≡ damaged)
+bytes-damaged = (refl, refl)
+
+pub bytes-far : answer-at (bytes 6 0x01_00_00_08_09_d0) 0 .offset ≡ 2512
+bytes-far = refl
+
 -- the 14 events of 01's run with room for all of them, with a byte less, and without the last byte of the last
-pub answered-all : answered 336 42 ≡ 14
+pub answered-all : answered 336 84 ≡ 14
 answered-all = refl
 
-pub answered-fewer : answered 336 41 ≡ 13
+pub answered-fewer : answered 336 83 ≡ 13
 answered-fewer = refl
 
 pub counted-short : (event-count 335 ≡ 14) × (event-count 337 ≡ 15) × (event-count 0 ≡ 0)

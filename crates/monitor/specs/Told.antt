@@ -9,15 +9,21 @@ use Rattle.octets.specs.Octets.{put}
 use Rattle.records.specs.Sizes.{event-size}
 use Rattle.records.specs.Phone.{joined}
 use Rattle.rules.specs.declared.Answer.{Answer}
-use Rattle.rules.specs.Step.{step, run, answers}
+use Rattle.rules.specs.Step.{refused, refused-at, step, run, answers}
+use Rattle.rules.specs.ImageRules.{accepted}
 
 -- ---- one step
 
--- an answer as one number: code, domain and links, a byte each
+-- an answer as one number, from the low byte up: links, domain, code, rule, and two bytes of offset
 abbrev pub packed : Answer → ℕ
-packed a = (a .code * 256 + a .domain) * 256 + a .links
+packed a = (((a .offset * 256 + a .rule) * 256 + a .code) * 256 + a .domain) * 256 + a .links
 
--- what a caller reads from it: MONITOR_CODE, MONITOR_DOMAIN and MONITOR_LINKS of bindings/monitor.h, a shift by 16, by 8 and by none and then the lowest byte
+-- "opening an image answers 0 or 1", and where it is wrong
+unfoldable pub opened : List ℕ → Answer
+opened l = cond (accepted l) (refused 0) (refused-at l)
+
+-- what a caller reads from it, by the macros of bindings/monitor.h: MONITOR_CODE, MONITOR_DOMAIN, MONITOR_LINKS and MONITOR_RULE,
+-- a shift by 16, by 8, by none and by 24 and then the lowest byte, and MONITOR_OFFSET, a shift by 32 and then the lowest two
 abbrev pub told-code : ℕ → ℕ
 told-code n = n / 65536 % 256
 
@@ -27,6 +33,12 @@ told-domain n = n / 256 % 256
 abbrev pub told-links : ℕ → ℕ
 told-links n = n % 256
 
+abbrev pub told-rule : ℕ → ℕ
+told-rule n = n / 16777216 % 256
+
+abbrev pub told-offset : ℕ → ℕ
+told-offset n = n / 4294967296 % 65536
+
 -- the number and the image
 pub record Stepped (l v : List ℕ) (r : ℕ) (l′ : List ℕ) : Type 0 where
   pub answer : r ≡ packed (step l v .answer)
@@ -34,16 +46,23 @@ pub record Stepped (l v : List ℕ) (r : ℕ) (l′ : List ℕ) : Type 0 where
 
 -- ---- a run
 
--- an answer as three bytes
+-- an answer as six bytes
 abbrev pub answer-size : ℕ
-answer-size = 3
+answer-size = 6
 
 abbrev pub answer-bytes : Answer → List ℕ
-answer-bytes a = a .code ∷ a .domain ∷ a .links ∷ []
+answer-bytes a = a .code ∷ a .domain ∷ a .links ∷ a .rule ∷ a .offset / 256 ∷ a .offset % 256 ∷ []
 
--- what a caller reads from a buffer of them as its i-th, the first one counted 0
+-- what a caller reads from a buffer of them as its i-th, the first one counted 0: MONITOR_RUN_CODE to MONITOR_RUN_OFFSET of bindings/monitor.h
 abbrev pub answer-from : List ℕ → ℕ → Answer
-answer-from out k = record { code = getD out k 0; domain = getD out (k + 1) 0; links = getD out (k + 2) 0 }
+answer-from out k =
+    record {
+      code = getD out k 0;
+      domain = getD out (k + 1) 0;
+      links = getD out (k + 2) 0;
+      rule = getD out (k + 3) 0;
+      offset = getD out (k + 4) 0 * 256 + getD out (k + 5) 0;
+    }
 
 abbrev pub answer-at : List ℕ → ℕ → Answer
 answer-at out i = answer-from out (i * answer-size)

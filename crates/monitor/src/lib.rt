@@ -7,32 +7,35 @@ ghost use lib.ListN.{length, take, drop, replicate};
 ghost use Rattle.octets.specs.Octets.{put};
 ghost use Rattle.records.specs.Sizes.{event-size};
 ghost use Rattle.records.specs.Phone.{joined};
-ghost use Rattle.rules.specs.ImageRules.{«open»};
-ghost use Rattle.rules.specs.Step.{refused};
 ghost use Rattle.opening.specs.Opened.{Accepted-image};
 ghost use Rattle.events.specs.Stepped.{Stepped-on};
-ghost use Rattle.monitor.specs.Told.{packed, Stepped, answer-size, answer-bytes, event-count, answered, Followed, Ran};
+ghost use Rattle.monitor.specs.Told.{packed, opened, Stepped, answer-size, answer-bytes, event-count, answered, Followed, Ran};
 
-const ANSWER_SIZE: usize = 3;
+const ANSWER_SIZE: usize = 6;
 
 // An answer in one register: a C caller has no record to fill.
-fn pack(a: Answer) -> u32
+fn pack(a: Answer) -> u64
     ensures { λ r. ⌜ r ≡ packed a ⌝ }
 {
-    (a.code as u32 * 256 + a.domain as u32) * 256 + a.links as u32
+    (((a.offset as u64 * 256 + a.rule as u64) * 256 + a.code as u64) * 256 + a.domain as u64) * 256
+        + a.links as u64
 }
 
-// 0 where the image is accepted, 1 where it is not. Any bytes.
+// 0 where the image is accepted, and else the answer that any event on it gets: code 1, the broken rule and where. Any bytes.
 #[no_mangle]
-pub extern "C" fn monitor_open(image: &[u8]) -> u8
-    ensures { λ r. ⌜ r ≡ «open» (now (image .entry)) ⌝ }
+pub extern "C" fn monitor_open(image: &[u8]) -> u64
+    ensures { λ r. ⌜ r ≡ packed (opened (now (image .entry))) ⌝ }
 {
-    opening::open(image)
+    let fault = opening::open(image);
+    if fault.rule != 0 {
+        return pack(opening::refused_at(image, fault));
+    }
+    0
 }
 
-// One event: the answer as a number, code * 65536 + domain * 256 + links, and the image after it. Any bytes.
+// One event: the answer as a number, from the low byte up links, domain, code, rule and two bytes of offset, and the image after it. Any bytes.
 #[no_mangle]
-pub extern "C" fn monitor_step(image: &mut [u8], event: &[u8]) -> u32
+pub extern "C" fn monitor_step(image: &mut [u8], event: &[u8]) -> u64
     ensures { λ r. ⌜ Stepped (now (image .entry)) (now (event .entry)) r (now (image .exit)) ⌝ }
 {
     let told = events::step(image, event);
@@ -62,7 +65,7 @@ fn answered(n: usize, m: usize) -> usize
     room
 }
 
-// The i-th answer of a buffer, as three bytes.
+// The i-th answer of a buffer, as six bytes.
 fn tell(answers: &mut [u8], i: usize, a: Answer)
     requires { ⌜ i * answer-size + answer-size ≤ length (now answers) ⌝ }
     ensures { λ _. ⌜ now (answers .exit) ≡ put (now (answers .entry)) (i * answer-size) (answer-bytes a) ⌝ }
@@ -71,6 +74,9 @@ fn tell(answers: &mut [u8], i: usize, a: Answer)
     answers[at] = a.code;
     answers[at + 1] = a.domain;
     answers[at + 2] = a.links;
+    answers[at + 3] = a.rule;
+    answers[at + 4] = (a.offset / 256) as u8;
+    answers[at + 5] = (a.offset % 256) as u8;
 }
 
 // The i-th event of a buffer; what is left where that is less than a record.
@@ -101,34 +107,27 @@ fn follow(image: &mut [u8], events: &[u8], answers: &mut [u8], n: usize)
 }
 
 // An image that is not accepted is told so at every event.
-fn refuse(answers: &mut [u8], n: usize)
+fn refuse(answers: &mut [u8], n: usize, a: Answer)
     requires { ⌜ n * answer-size ≤ length (now answers) ⌝ }
-    ensures { λ _. ⌜ now (answers .exit) ≡ put (now (answers .entry)) 0 (joined answer-bytes (replicate n (refused 1))) ⌝ }
+    ensures { λ _. ⌜ now (answers .exit) ≡ put (now (answers .entry)) 0 (joined answer-bytes (replicate n a)) ⌝ }
 {
     let mut i = 0;
     while i < n {
-        tell(
-            answers,
-            i,
-            Answer {
-                code: 1,
-                domain: 0,
-                links: 0,
-            },
-        );
+        tell(answers, i, a);
         i += 1;
     }
 }
 
-// Events one after the other, the last of which may be short, on an image that is opened once: three bytes for each
+// Events one after the other, the last of which may be short, on an image that is opened once: six bytes for each
 // answer, as long as there is room, and the number of answers. Any bytes.
 #[no_mangle]
 pub extern "C" fn monitor_run(image: &mut [u8], events: &[u8], answers: &mut [u8]) -> usize
     ensures { λ r. ⌜ Ran (now (image .entry)) (now (events .entry)) (now (answers .entry)) r (now (image .exit)) (now (answers .exit)) ⌝ }
 {
     let n = answered(events.len(), answers.len());
-    if opening::open(image) != 0 {
-        refuse(answers, n);
+    let fault = opening::open(image);
+    if fault.rule != 0 {
+        refuse(answers, n, opening::refused_at(image, fault));
         return n;
     }
     follow(image, events, answers, n);

@@ -1,77 +1,126 @@
--- What opening answers: 1 where any rule is broken, 0 where none is. Assumes nothing.
+-- What opening answers: the first broken rule, those before it kept. Assumes nothing.
 use Prim.Native.Nat.{ℕ}
 use mathlib.Core.Bool.{Bool, true, false, cond, not}
 use mathlib.Core.List.{List}
-use mathlib.Core.Path.{_≡_, refl, sym, ap, _∙_, subst}
+use mathlib.Core.Path.{_≡_, refl, sym, ap, _∙_}
 use native.Mathlib.Omega.{arith}
-use lib.Dec.{T}
 use borrow.Author.Tests.{not-true, not-false}
 use Rattle.octets.proofs.Laws.{Bytes}
-use Rattle.records.specs.Phone.{decode}
-use Rattle.records.specs.Frame.{framed, Framed}
+use Rattle.records.specs.Phone.{Phone, decode}
+use Rattle.records.specs.Frame.{framed, Framed, header-fault}
 use Rattle.records.proofs.RoundTrip.{frame}
-use Rattle.rules.specs.Words.{first}
-use Rattle.rules.specs.ImageRules.{i2, i3, i4, i5, i6, i7, i8, broken, accepted, «open»}
-use Rattle.rules.proofs.Accepts.{Ruled, accepts-in, accepted-out, true-T}
-use Rattle.opening.specs.Opened.{Opened}
+use Rattle.rules.specs.declared.Site.{Site}
+use Rattle.rules.specs.declared.Fault.{Fault}
+use Rattle.rules.specs.Words.{all, first}
+use Rattle.rules.specs.ImageRules.{row-fits, i2, i3, i4, i5, i6, i7, i8, broken, accepted}
+use Rattle.rules.specs.Faults.{lowest, certificate-site, executable-site, i3-site, at-rule, no-fault, fault}
+use Rattle.rules.proofs.Faults.{answer-breaks, answer-keeps, answer-at}
+use Rattle.opening.specs.Opened.{Kept, Opened}
 use Rattle.opening.proofs.Promise.{accepted-image}
 
--- what a test told of its rule
-pub told : {r b v : Bool} → r ≡ b → not r ≡ v → not b ≡ v
-told e h = ap not (sym e) ∙ h
+-- a is what is told of a rule b: nothing, or that it is broken at s
+abbrev Told : Bool → ℕ → Site → Fault → Type 0
+Told b r s a = a ≡ cond b no-fault (at-rule r s)
 
 module _ (l : List ℕ) where
-  -- ---- 1
+  abbrev p : Phone
+  p = decode l
 
-  denied : (b : Bool) → not b ≡ true → T b → ⊥
-  denied b e t = subst T (not-true b e) t
+  abbrev row-site : Site
+  row-site = Site.Row (lowest (all row-fits) (p .table))
 
-  refused : (accepted l ≡ true → ⊥) → Opened l 1
-  unfolding «open»
-  refused h = record { answer = go (accepted l) h; promise = λ e. let z : ⊥ = omega arith in absurd z }
-    where
-      go : (b : Bool) → (b ≡ true → ⊥) → _≡_ {A = ℕ} 1 (cond b 0 1)
-      go true h = absurd (h refl)
-      go false h = refl
+  -- b is what the test of I1 told
+  module _ {b : Bool} (told : b ≡ framed l) where
+    pub is-framed : not b ≡ false → framed l ≡ true
+    is-framed e = sym told ∙ not-false b e
 
-  ruled : accepted l ≡ true → Ruled (decode l)
-  ruled h = accepts-in (decode l) (accepted-out l h .1)
+    pub frames : Bytes l → not b ≡ false → Framed l
+    frames w e = frame l w (is-framed e)
 
-  pub breaks-i1 : not (framed l) ≡ true → Opened l 1
-  breaks-i1 e = refused (λ h. denied (framed l) e (true-T (framed l) (accepted-out l h .0)))
+  -- a rule is broken: nothing is promised
+  refused : {a : Fault} → (a .rule ≡ 0 → ⊥) → a ≡ fault l → Opened l a
+  refused z e = record { answer = e; promise = λ q. absurd (z q) }
 
-  pub breaks-i2 : not (i2 (decode l)) ≡ true → Opened l 1
-  breaks-i2 e = refused (λ h. denied (i2 (decode l)) e (ruled h .i2))
+  pub breaks-i1 : {b : Bool} {o : ℕ} → b ≡ framed l → not b ≡ true → o ≡ header-fault l → Opened l (at-rule 1 (Site.Header o))
+  unfolding fault broken first
+  breaks-i1 {b} {o} told n e = refused (λ q. omega arith) (ap (λ k. at-rule 1 (Site.Header k)) e ∙ rw (sym told ∙ not-true b n))
 
-  pub breaks-i3 : not (i3 (decode l)) ≡ true → Opened l 1
-  breaks-i3 e = refused (λ h. denied (i3 (decode l)) e (ruled h .i3))
+  -- ---- what is told of a rule that is kept
 
-  pub breaks-i4 : not (i4 (decode l)) ≡ true → Opened l 1
-  breaks-i4 e = refused (λ h. denied (i4 (decode l)) e (ruled h .i4))
+  pub keeps-i2 : {a : Fault} → Told (i2 p) 2 (certificate-site i2 p) a → a .rule ≡ 0 → i2 p ≡ true
+  keeps-i2 e z = answer-keeps (i2 p) no-fault (at-rule 2 (certificate-site i2 p)) e (λ q. omega arith) z
 
-  pub breaks-i5 : not (i5 (decode l)) ≡ true → Opened l 1
-  breaks-i5 e = refused (λ h. denied (i5 (decode l)) e (ruled h .i5))
+  pub keeps-i3 : {a : Fault} → Told (i3 p) 3 (i3-site p) a → a .rule ≡ 0 → i3 p ≡ true
+  keeps-i3 e z = answer-keeps (i3 p) no-fault (at-rule 3 (i3-site p)) e (λ q. omega arith) z
 
-  pub breaks-i6 : not (i6 (decode l)) ≡ true → Opened l 1
-  breaks-i6 e = refused (λ h. denied (i6 (decode l)) e (ruled h .i6))
+  pub keeps-i4 : {a : Fault} → Told (i4 p) 4 (certificate-site i4 p) a → a .rule ≡ 0 → i4 p ≡ true
+  keeps-i4 e z = answer-keeps (i4 p) no-fault (at-rule 4 (certificate-site i4 p)) e (λ q. omega arith) z
 
-  pub breaks-i7 : not (i7 (decode l)) ≡ true → Opened l 1
-  breaks-i7 e = refused (λ h. denied (i7 (decode l)) e (ruled h .i7))
+  pub keeps-i5 : {a : Fault} → Told (i5 p) 5 (certificate-site i5 p) a → a .rule ≡ 0 → i5 p ≡ true
+  keeps-i5 e z = answer-keeps (i5 p) no-fault (at-rule 5 (certificate-site i5 p)) e (λ q. omega arith) z
 
-  pub breaks-i8 : not (i8 (decode l)) ≡ true → Opened l 1
-  breaks-i8 e = refused (λ h. denied (i8 (decode l)) e (ruled h .i8))
+  pub keeps-i6 : {a : Fault} → Told (i6 p) 6 row-site a → a .rule ≡ 0 → i6 p ≡ true
+  keeps-i6 e z = answer-keeps (i6 p) no-fault (at-rule 6 row-site) e (λ q. omega arith) z
 
-  -- ---- 0
+  pub keeps-i7 : {a : Fault} → Told (i7 p) 7 (executable-site i7 p) a → a .rule ≡ 0 → i7 p ≡ true
+  keeps-i7 e z = answer-keeps (i7 p) no-fault (at-rule 7 (executable-site i7 p)) e (λ q. omega arith) z
 
-  module _ (b : Bytes l) (e1 : not (framed l) ≡ false) where
-    pub frames : Framed l
-    frames = frame l b (not-false (framed l) e1)
+  -- ---- the first broken rule
 
-    module _ (e2 : not (i2 (decode l)) ≡ false) (e3 : not (i3 (decode l)) ≡ false) (e4 : not (i4 (decode l)) ≡ false) (e5 : not (i5 (decode l)) ≡ false) (e6 : not (i6 (decode l)) ≡ false) (e7 : not (i7 (decode l)) ≡ false) (e8 : not (i8 (decode l)) ≡ false) where
-      all-kept : accepted l ≡ true
-      unfolding accepted broken first
-      all-kept = rw (not-false (framed l) e1, not-false (i2 (decode l)) e2, not-false (i3 (decode l)) e3, not-false (i4 (decode l)) e4, not-false (i5 (decode l)) e5, not-false (i6 (decode l)) e6, not-false (i7 (decode l)) e7, not-false (i8 (decode l)) e8)
+  module _ (k1 : framed l ≡ true) where
+    pub breaks-i2 : {a : Fault} → Told (i2 p) 2 (certificate-site i2 p) a → (a .rule ≡ 0 → ⊥) → Opened l a
+    unfolding fault broken first
+    breaks-i2 e z =
+        let f = at-rule 2 (certificate-site i2 p) in
+        refused z (answer-at (i2 p) no-fault f e refl z ∙ rw (k1, answer-breaks (i2 p) no-fault f e refl z))
 
-      pub opens : Opened l 0
-      unfolding «open»
-      opens = record { answer = rw all-kept; promise = λ e. accepted-image l b all-kept }
+    module _ (k2 : i2 p ≡ true) where
+      pub breaks-i3 : {a : Fault} → Told (i3 p) 3 (i3-site p) a → (a .rule ≡ 0 → ⊥) → Opened l a
+      unfolding fault broken first
+      breaks-i3 e z =
+          let f = at-rule 3 (i3-site p) in
+          refused z (answer-at (i3 p) no-fault f e refl z ∙ rw (k1, k2, answer-breaks (i3 p) no-fault f e refl z))
+
+      module _ (k3 : i3 p ≡ true) where
+        pub breaks-i4 : {a : Fault} → Told (i4 p) 4 (certificate-site i4 p) a → (a .rule ≡ 0 → ⊥) → Opened l a
+        unfolding fault broken first
+        breaks-i4 e z =
+            let f = at-rule 4 (certificate-site i4 p) in
+            refused z (answer-at (i4 p) no-fault f e refl z ∙ rw (k1, k2, k3, answer-breaks (i4 p) no-fault f e refl z))
+
+        module _ (k4 : i4 p ≡ true) where
+          pub breaks-i5 : {a : Fault} → Told (i5 p) 5 (certificate-site i5 p) a → (a .rule ≡ 0 → ⊥) → Opened l a
+          unfolding fault broken first
+          breaks-i5 e z =
+              let f = at-rule 5 (certificate-site i5 p) in
+              refused z (answer-at (i5 p) no-fault f e refl z ∙ rw (k1, k2, k3, k4, answer-breaks (i5 p) no-fault f e refl z))
+
+  pub all-kept : framed l ≡ true → i2 p ≡ true → i3 p ≡ true → i4 p ≡ true → i5 p ≡ true → Kept l
+  all-kept k1 k2 k3 k4 k5 = record { framed = k1; i2 = k2; i3 = k3; i4 = k4; i5 = k5 }
+
+  module _ (k : Kept l) where
+    pub breaks-i6 : {a : Fault} → Told (i6 p) 6 row-site a → (a .rule ≡ 0 → ⊥) → Opened l a
+    unfolding fault broken first
+    breaks-i6 e z =
+        let f = at-rule 6 row-site in
+        refused z (answer-at (i6 p) no-fault f e refl z ∙ rw (k .framed, k .i2, k .i3, k .i4, k .i5, answer-breaks (i6 p) no-fault f e refl z))
+
+    module _ (k6 : i6 p ≡ true) where
+      pub breaks-i7 : {a : Fault} → Told (i7 p) 7 (executable-site i7 p) a → (a .rule ≡ 0 → ⊥) → Opened l a
+      unfolding fault broken first
+      breaks-i7 e z =
+          let f = at-rule 7 (executable-site i7 p) in
+          refused z (answer-at (i7 p) no-fault f e refl z ∙ rw (k .framed, k .i2, k .i3, k .i4, k .i5, k6, answer-breaks (i7 p) no-fault f e refl z))
+
+      module _ (k7 : i7 p ≡ true) where
+        -- I8 is the last
+        pub opens : Framed l → {a : Fault} → Told (i8 p) 8 (executable-site i8 p) a → Opened l a
+        unfolding fault broken first accepted
+        opens f {a} e = go (i8 p) refl e
+          where
+            go : (b : Bool) → i8 p ≡ b → Told b 8 (executable-site i8 p) a → Opened l a
+            go true k8 e =
+                let kept : broken l ≡ 0 = rw (k .framed, k .i2, k .i3, k .i4, k .i5, k6, k7, k8) in
+                record { answer = e ∙ rw kept; promise = λ q. accepted-image l f (rw kept) }
+            go false k8 e =
+                refused (λ q. let z : 8 ≡ 0 = sym (ap (λ x. x .rule) e) ∙ q in omega arith) (e ∙ rw (k .framed, k .i2, k .i3, k .i4, k .i5, k6, k7, k8))

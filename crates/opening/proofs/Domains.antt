@@ -1,24 +1,27 @@
 -- I8 a domain at a time: I7 leaves no executable a domain above 3. Assumes nothing.
-use Prim.Native.Nat.{ℕ, zero, suc, _≤_}
-use mathlib.Core.Bool.{Bool, true, false, not, _&&_}
-use mathlib.Core.List.{List·Memᴰ}
+use Prim.Native.Nat.{ℕ, zero, suc, _≤_, min}
+use mathlib.Core.Bool.{Bool, not, _&&_}
+use mathlib.Core.List.{List, [], _∷_, List·Memᴰ, List·Memᴰ·head, List·Memᴰ·tail, List·Memᴰ·cases-cons, List·Memᴰ·not-nil}
 use mathlib.Core.Logic.{_⊎_, inl, inr}
 use mathlib.Core.Path.{_≡_, refl, sym, ap, _∙_, subst}
 use native.Mathlib.Omega.{arith}
 use lib.Dec.{T, eqb}
-use lib.ListN.{length}
+use lib.ListN.{length, take}
 use Rattle.records.specs.Phone.{Trust, Phone, no-executable}
 use Rattle.records.specs.declared.Executable.{Executable}
 use Rattle.rules.specs.Words.{all}
 use Rattle.rules.specs.Chains.{chains-to}
 use Rattle.rules.specs.ImageRules.{i7, i8}
+use Rattle.rules.specs.Parts.{program-fits, chained-fits}
+use Rattle.rules.specs.Faults.{lowest, of-executables}
 use Rattle.rules.proofs.Accepted.{Stored}
-use Rattle.rules.proofs.Accepts.{chained-fits, chained-out}
-use Rattle.rules.proofs.Fits.{program-fits, executable-out}
+use Rattle.rules.proofs.Accepts.{chained-out}
+use Rattle.rules.proofs.Fits.{executable-out}
 use Rattle.rules.proofs.Lists.{all-out, all-in}
-use Rattle.rules.proofs.Tests.{tests, is, si, isnt, or-cases, or-i, or-j, by-test}
+use Rattle.rules.proofs.Tests.{tests, is, si, isnt, or-cases, or-i, or-j, by-test, same}
+use Rattle.rules.proofs.Lowest.{lowest-both, lowest-same}
+use Rattle.rules.proofs.More.{all-and}
 use Rattle.chain.specs.Keys.{chained-in}
-use Rattle.chain.proofs.Good.{same}
 
 pub executable-domain : {n : ℕ} (x : Executable) → (x ≡ no-executable) ⊎ Stored n x → x .domain ≤ 3
 executable-domain x (inl z) = let e : x .domain ≡ 0 = ap (λ y. y .domain) z in omega arith
@@ -57,35 +60,54 @@ module _ (t : Trust) (x : Executable) where
       go (suc (suc (suc zero))) e h = or-j (eqb (x .domain) 0) (chains-to t (x .signing) (x .domain)) (own 3 e c)
       go (suc (suc (suc (suc d)))) e h = absurd (omega arith)
 
-by-domains : (p : Phone) → T (i7 p) → ((all (chained-in 1 (p .trust)) (p .executables) && all (chained-in 2 (p .trust)) (p .executables)) && all (chained-in 3 (p .trust)) (p .executables)) ≡ i8 p
-unfolding i8
-by-domains p h =
-    let t = p .trust in
-    let l = p .executables in
-    same ((all (chained-in 1 t) l && all (chained-in 2 t) l) && all (chained-in 3 t) l) (all (chained-fits t) l)
+-- x chains where its domain says, exactly if it does in each of the three turns
+by-domains : (t : Trust) (x : Executable) → x .domain ≤ 3 → chained-fits t x ≡ ((chained-in 1 t x && chained-in 2 t x) && chained-in 3 t x)
+by-domains t x h =
+    same (chained-fits t x) ((chained-in 1 t x && chained-in 2 t x) && chained-in 3 t x)
     (λ w.
-    let a : T (all (chained-in 1 t) l) = search tests in
-    let b : T (all (chained-in 2 t) l) = search tests in
-    let c : T (all (chained-in 3 t) l) = search tests in
-    all-in (chained-fits t) l (λ x m. all-turns t x (known p h x m) (all-out (chained-in 1 t) l a x m) (all-out (chained-in 2 t) l b x m) (all-out (chained-in 3 t) l c x m)))
-    (λ w.
-    let turn : (d : ℕ) → (d ≡ 0 → ⊥) → T (all (chained-in d t) l) = λ d z. all-in (chained-in d t) l (λ x m. each-turn t x d z (all-out (chained-fits t) l w x m)) in
-    let a = turn 1 (λ q. omega arith) in
-    let b = turn 2 (λ q. omega arith) in
-    let c = turn 3 (λ q. omega arith) in
+    let a = each-turn t x 1 (λ q. omega arith) w in
+    let b = each-turn t x 2 (λ q. omega arith) w in
+    let c = each-turn t x 3 (λ q. omega arith) w in
     search tests)
+    (λ w. all-turns t x h (search tests) (search tests) (search tests))
 
--- the three turns, and where they end
-module _ (p : Phone) (h : T (i7 p)) where
-  abbrev turn : ℕ → Bool
-  turn d = all (chained-in d (p .trust)) (p .executables)
+-- the records up to one are records
+mem-take : {A : Type 0} (i : ℕ) (l : List A) (x : A) → List·Memᴰ x (take i l) → List·Memᴰ x l
+mem-take zero l x m = absurd (List·Memᴰ·not-nil m)
+mem-take (suc i) [] x m = m
+mem-take (suc i) (y ∷ l) x m = go (mem-take i l x) (List·Memᴰ·cases-cons m)
+  where
+    go : (List·Memᴰ x (take i l) → List·Memᴰ x l) → (x ≡ y) ⊎ List·Memᴰ x (take i l) → List·Memᴰ x (y ∷ l)
+    go r (inl e) = List·Memᴰ·head e
+    go r (inr n) = List·Memᴰ·tail (r n)
 
-  pub first-turn : false ≡ turn 1 → false ≡ i8 p
-  first-turn a = ap (λ x. (x && turn 2) && turn 3) a ∙ by-domains p h
+all-same : {A : Type 0} (f g : A → Bool) (l : List A) → ((x : A) → List·Memᴰ x l → f x ≡ g x) → all f l ≡ all g l
+all-same f g l h =
+    same (all f l) (all g l)
+    (λ w. all-in g l (λ x m. subst T (h x m) (all-out f l w x m)))
+    (λ w. all-in f l (λ x m. subst T (sym (h x m)) (all-out g l w x m)))
 
-  module _ (a : true ≡ turn 1) where
-    pub second-turn : false ≡ turn 2 → false ≡ i8 p
-    second-turn b = ap (λ x. x && turn 3) (b ∙ ap (λ x. x && turn 2) a) ∙ by-domains p h
+-- the lowest executable that does not chain: the lowest of the three turns
+pub i8-lowest : (p : Phone) → T (i7 p)
+    → lowest (of-executables i8 p) (p .executables)
+    ≡ min (min (lowest (all (chained-in 1 (p .trust))) (p .executables)) (lowest (all (chained-in 2 (p .trust))) (p .executables)))
+    (lowest (all (chained-in 3 (p .trust))) (p .executables))
+unfolding i8
+i8-lowest p h =
+    lowest-same (all (chained-fits t)) (λ l. (all (chained-in 1 t) l && all (chained-in 2 t) l) && all (chained-in 3 t) l) l turns
+    ∙ lowest-both (λ l. all (chained-in 1 t) l && all (chained-in 2 t) l) (all (chained-in 3 t)) l
+    ∙ ap (λ n. min n (lowest (all (chained-in 3 t)) l)) (lowest-both (all (chained-in 1 t)) (all (chained-in 2 t)) l)
+  where
+    t : Trust
+    t = p .trust
 
-    pub last-turn : true ≡ turn 2 → (r : Bool) → r ≡ turn 3 → r ≡ i8 p
-    last-turn b r c = c ∙ ap (λ x. x && turn 3) (b ∙ ap (λ x. x && turn 2) a) ∙ by-domains p h
+    l : List Executable
+    l = p .executables
+
+    turns : (i : ℕ)
+        → all (chained-fits t) (take i l) ≡ ((all (chained-in 1 t) (take i l) && all (chained-in 2 t) (take i l)) && all (chained-in 3 t) (take i l))
+    turns i =
+        all-same (chained-fits t) (λ x. (chained-in 1 t x && chained-in 2 t x) && chained-in 3 t x) (take i l)
+        (λ x m. by-domains t x (known p h x (mem-take i l x m)))
+        ∙ all-and (λ x. chained-in 1 t x && chained-in 2 t x) (chained-in 3 t) (take i l)
+        ∙ ap (λ b. b && all (chained-in 3 t) (take i l)) (all-and (chained-in 1 t) (chained-in 2 t) (take i l))

@@ -1,4 +1,5 @@
-pub mod Parts
 pub mod Domains
+pub mod Parts
 pub mod Promise
 pub mod Answers
+pub mod Offsets

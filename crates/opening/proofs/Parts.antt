@@ -1,14 +1,27 @@
--- A rule's test by its parts, in the order of the code: the first that fails decides, and the last where none before it does. Assumes nothing.
-use mathlib.Core.Bool.{Bool, true, false, not, _&&_}
-use mathlib.Core.List.{map}
-use mathlib.Core.Path.{_≡_}
-use lib.Dec.{eqb}
-use borrow.Author.Tests.{not-true, not-false}
-use Rattle.records.specs.Phone.{Phone}
+-- A rule's answer by its parts, in the order of the code. Assumes nothing.
+use Prim.Native.Nat.{ℕ, _≤_, _<_, min}
+use mathlib.Core.Bool.{Bool, true, false, cond, not, _&&_, _||_, true≢false, false≢true}
+use mathlib.Core.List.{List}
+use mathlib.Core.Logic.{_≢_}
+use mathlib.Core.Path.{_≡_, refl, sym, ap, ap₂, _∙_}
+use native.Mathlib.Nat.{min-eq-left, min-eq-right}
+use native.Mathlib.Omega.{arith}
+use borrow.Author.Tests.{not-true, not-false, lt-ltb, le-ltb}
+use lib.Dec.{T, ltb}
+use lib.ListN.{length}
+use Rattle.records.specs.Phone.{Seen, Phone, no-certificate, no-card, no-executable, no-row}
 use Rattle.records.specs.declared.Certificate.{Certificate}
-use Rattle.rules.specs.Words.{_implies_, all, all-pairs, distinct}
-use Rattle.rules.specs.ImageRules.{known-place, operator-of, valid-in, has-valid-operator, key-of-one-domain, card-owns, one-in-place, yields-to-card, one-manufacturer, i3, i4, i5}
-use Rattle.rules.proofs.Fits.{card-fits}
+use Rattle.records.specs.declared.Card.{Card}
+use Rattle.rules.specs.Words.{_implies_, all}
+use Rattle.rules.specs.declared.Site.{Site}
+use Rattle.rules.specs.declared.Fault.{Fault}
+use Rattle.rules.specs.ImageRules.{valid-in, known-place, row-fits, i2, i3, i4, i5, i6, i7, i8}
+use Rattle.rules.specs.Parts.{slot-fits, cards-fit, present-known, places-known, i5-with}
+use Rattle.rules.specs.Faults.{lowest, of-certificates, of-executables, certificate-site, executable-site, i3-site, at-rule, no-fault}
+use Rattle.rules.proofs.More.{all-grows}
+use Rattle.rules.proofs.Faults.{placed, answer-keeps, i5-spares, places-grow, cards-grow, i4-grows, i5-grows, i7-grows, i8-grows}
+use Rattle.chain.specs.Keys.{chained-in}
+use Rattle.opening.proofs.Domains.{i8-lowest}
 
 -- ---- if the first, then the second
 
@@ -20,109 +33,128 @@ pub spared : (a b : Bool) → a ≡ false → true ≡ (a implies b)
 unfolding _implies_
 spared a b h = rw h
 
+-- I5 asks nothing of e, which was read as c
+pub i5-spared : (cards : List Card) (s : Seen) (l : List Certificate) {c e : Certificate} {x : Bool} → c ≡ e
+    → x ≡ (valid-in 1 (s .clock) c || valid-in 2 (s .clock) c) → not x ≡ true → true ≡ i5-with cards s l e
+i5-spared cards s l {c} {e} {x} q t n =
+    i5-spares cards s e (ap (λ y. valid-in 1 (s .clock) y || valid-in 2 (s .clock) y) (sym q) ∙ sym t ∙ not-true x n) l
+
+-- ---- the lower of two, and whether there is a record
+
+pub lower-left : (a b : ℕ) → a < b → a ≡ min a b
+lower-left a b h = sym (min-eq-left (omega arith))
+
+pub lower-right : (a b : ℕ) → b ≤ a → b ≡ min a b
+lower-right a b h = sym (min-eq-right h)
+
+-- of n records, record i is one, or is none
+module _ (a b : Fault) {i n k : ℕ} (e : n ≡ k) where
+  pub there : i < n → a ≡ cond (ltb i k) a b
+  there h = rw (lt-ltb i k (omega arith))
+
+  pub nowhere : n ≤ i → b ≡ cond (ltb i k) a b
+  nowhere h = rw (le-ltb i k (omega arith))
+
+-- ---- I3: the card present, the places, then the cards; r is what is told
+
+module _ (r : Fault) where
+  abbrev third : Bool → Bool → Bool → Site → Site → Fault
+  third cards present places c k =
+      cond ((cards && present) && places) no-fault (at-rule 3 (cond (not present) (Site.Header 12) (cond (not places) c k)))
+
+  no-present : (cards present places : Bool) (c k : Site) → present ≡ false → at-rule 3 (Site.Header 12) ≡ third cards present places c k
+  no-present true false places c k e = refl
+  no-present false false places c k e = refl
+  no-present cards true places c k e = absurd (true≢false e)
+
+  no-place : (cards present places : Bool) (c k : Site) → present ≡ true → r ≡ cond places no-fault (at-rule 3 c) → r .rule ≢ 0
+      → r ≡ third cards present places c k
+  no-place cards false places c k e q z = absurd (false≢true e)
+  no-place cards true true c k e q z = absurd (z (ap (λ f. f .rule) q))
+  no-place true true false c k e q z = q
+  no-place false true false c k e q z = q
+
+  no-card-left : (cards present places : Bool) (c k : Site) → present ≡ true → places ≡ true → r ≡ cond cards no-fault (at-rule 3 k)
+      → r ≡ third cards present places c k
+  no-card-left cards false places c k e f q = absurd (false≢true e)
+  no-card-left cards true false c k e f q = absurd (false≢true f)
+  no-card-left true true true c k e f q = q
+  no-card-left false true true c k e f q = q
+
 module _ (p : Phone) where
-  -- ---- I3
+  abbrev certificates : List Certificate
+  certificates = p .trust .certificates
 
-  abbrev cards-fit : Bool
-  cards-fit = all card-fits (p .cards)
+  abbrev cards : Bool
+  cards = cards-fit (p .cards)
 
-  abbrev numbers-distinct : Bool
-  numbers-distinct = distinct (map (λ k. k .number) (p .cards))
+  abbrev places : Bool
+  places = places-known (p .cards) certificates
 
-  abbrev present-known : Bool
-  present-known = known-place (p .cards) (p .trust .seen .card)
+  abbrev at-place : Site
+  at-place = Site.Certificate (lowest (places-known (p .cards)) certificates)
 
-  abbrev places-known : Bool
-  places-known = all (λ c. known-place (p .cards) (c .place)) (p .trust .certificates)
+  abbrev at-card : Site
+  at-card = Site.Card (lowest cards-fit (p .cards))
 
-  pub i3-card : not cards-fit ≡ true → false ≡ i3 p
-  unfolding i3
-  i3-card a = rw (not-true cards-fit a)
+  -- what is told of record i: nothing where there is none
+  abbrev Told : ℕ → ℕ → Site → ℕ → Fault → Type 0
+  Told rule i site n r = r ≡ cond (ltb i n) (at-rule rule site) no-fault
 
-  pub i3-number : not cards-fit ≡ false → not numbers-distinct ≡ true → false ≡ i3 p
-  unfolding i3
-  i3-number a b = rw (not-false cards-fit a, not-true numbers-distinct b)
+  -- n is the card present, and b whether it is known
+  module _ {n : ℕ} {b : Bool} (present : n ≡ p .trust .seen .card) (known : b ≡ known-place (p .cards) n) where
+    whether : present-known p ≡ b
+    whether = ap (known-place (p .cards)) (sym present) ∙ sym known
 
-  pub i3-present : not cards-fit ≡ false → not numbers-distinct ≡ false → not present-known ≡ true → false ≡ i3 p
-  unfolding i3
-  i3-present a b d = rw (not-false cards-fit a, not-false numbers-distinct b, not-true present-known d)
+    pub i3-present : not b ≡ true → at-rule 3 (Site.Header 12) ≡ cond (i3 p) no-fault (at-rule 3 (i3-site p))
+    unfolding i3 i3-site cards-fit
+    i3-present e = no-present no-fault cards (present-known p) places at-place at-card (whether ∙ not-true b e)
 
-  pub i3-places : {y : Bool} → not cards-fit ≡ false → not numbers-distinct ≡ false → not present-known ≡ false → y ≡ places-known → y ≡ i3 p
-  unfolding i3
-  i3-places a b d e = rw (not-false cards-fit a, not-false numbers-distinct b, not-false present-known d) e
+    module _ (e : not b ≡ false) {i : ℕ} {q : Fault} (lowest-place : i ≡ lowest (places-known (p .cards)) certificates)
+        (at : Told 3 i (Site.Certificate i) (length certificates) q) where
+      answer : q ≡ cond places no-fault (at-rule 3 at-place)
+      answer = placed (places-grow (p .cards)) no-certificate certificates no-fault (λ i. at-rule 3 (Site.Certificate i)) lowest-place at
 
-  -- ---- I4
+      pub i3-places : q .rule ≢ 0 → q ≡ cond (i3 p) no-fault (at-rule 3 (i3-site p))
+      unfolding i3 i3-site cards-fit
+      i3-places z = no-place q cards (present-known p) places at-place at-card (whether ∙ not-false b e) answer z
 
-  abbrev ids-distinct : Bool
-  ids-distinct = distinct (map (λ c. c .id) (p .trust .certificates))
+      pub i3-cards : {k : ℕ} {r : Fault} → q .rule ≡ 0 → k ≡ lowest cards-fit (p .cards) → Told 3 k (Site.Card k) (length (p .cards)) r
+          → r ≡ cond (i3 p) no-fault (at-rule 3 (i3-site p))
+      unfolding i3 i3-site cards-fit
+      i3-cards {k} {r} z a o =
+          no-card-left r cards (present-known p) places at-place at-card (whether ∙ not-false b e)
+          (answer-keeps places no-fault (at-rule 3 at-place) answer (λ f. omega arith) z)
+          (placed cards-grow no-card (p .cards) no-fault (λ i. at-rule 3 (Site.Card i)) a o)
 
-  abbrev keys-apart : Bool
-  keys-apart = all-pairs key-of-one-domain (p .trust .certificates)
+  -- ---- the others: the lowest record of a rule by those of its parts
 
-  abbrev owners-fit : Bool
-  owners-fit = all (card-owns (p .cards)) (p .trust .certificates)
+  pub i2-told : {i : ℕ} {r : Fault} → i ≡ lowest (all slot-fits) certificates → Told 2 i (Site.Certificate i) (length certificates) r
+      → r ≡ cond (i2 p) no-fault (at-rule 2 (certificate-site i2 p))
+  unfolding i2
+  i2-told e q = placed (all-grows slot-fits) no-certificate certificates no-fault (λ i. at-rule 2 (Site.Certificate i)) e q
 
-  pub i4-id : not ids-distinct ≡ true → false ≡ i4 p
-  unfolding i4
-  i4-id a = rw (not-true ids-distinct a)
+  pub i4-told : {i : ℕ} {r : Fault} → i ≡ lowest (of-certificates i4 p) certificates → Told 4 i (Site.Certificate i) (length certificates) r
+      → r ≡ cond (i4 p) no-fault (at-rule 4 (certificate-site i4 p))
+  i4-told e q = placed (i4-grows p) no-certificate certificates no-fault (λ i. at-rule 4 (Site.Certificate i)) e q
 
-  pub i4-key : not ids-distinct ≡ false → not keys-apart ≡ true → false ≡ i4 p
-  unfolding i4
-  i4-key a b = rw (not-false ids-distinct a, not-true keys-apart b)
+  pub i5-told : {i : ℕ} {r : Fault} → i ≡ lowest (of-certificates i5 p) certificates → Told 5 i (Site.Certificate i) (length certificates) r
+      → r ≡ cond (i5 p) no-fault (at-rule 5 (certificate-site i5 p))
+  i5-told e q = placed (i5-grows p) no-certificate certificates no-fault (λ i. at-rule 5 (Site.Certificate i)) e q
 
-  pub i4-owners : {y : Bool} → not ids-distinct ≡ false → not keys-apart ≡ false → y ≡ owners-fit → y ≡ i4 p
-  unfolding i4
-  i4-owners a b e = rw (not-false ids-distinct a, not-false keys-apart b) e
+  pub i6-told : {i : ℕ} {r : Fault} → i ≡ lowest (all row-fits) (p .table) → Told 6 i (Site.Row i) (length (p .table)) r
+      → r ≡ cond (i6 p) no-fault (at-rule 6 (Site.Row (lowest (all row-fits) (p .table))))
+  unfolding i6
+  i6-told e q = placed (all-grows row-fits) no-row (p .table) no-fault (λ i. at-rule 6 (Site.Row i)) e q
 
-  -- ---- I5
+  pub i7-told : {i : ℕ} {r : Fault} → i ≡ lowest (of-executables i7 p) (p .executables) → Told 7 i (Site.Executable i) (length (p .executables)) r
+      → r ≡ cond (i7 p) no-fault (at-rule 7 (executable-site i7 p))
+  i7-told e q = placed (i7-grows p) no-executable (p .executables) no-fault (λ i. at-rule 7 (Site.Executable i)) e q
 
-  abbrev one-in-each-place : Bool
-  one-in-each-place = all-pairs (one-in-place (p .trust .seen .clock)) (p .trust .certificates)
-
-  abbrev no-card-present : Bool
-  no-card-present = eqb (p .trust .seen .card) 0
-
-  abbrev phone-yields : Bool
-  phone-yields = all (yields-to-card p) (p .trust .certificates)
-
-  abbrev manufacturers-alone : Bool
-  manufacturers-alone = all-pairs (one-manufacturer (p .trust .seen .clock)) (p .trust .certificates)
-
-  pub i5-place : not one-in-each-place ≡ true → false ≡ i5 p
-  unfolding i5
-  i5-place a = rw (not-true one-in-each-place a)
-
-  pub i5-phone : not one-in-each-place ≡ false → no-card-present ≡ false → not phone-yields ≡ true → false ≡ i5 p
-  unfolding i5
-  i5-phone a z b = rw (not-false one-in-each-place a, z, not-true phone-yields b)
-
-  pub i5-no-card : {y : Bool} → not one-in-each-place ≡ false → no-card-present ≡ true → y ≡ manufacturers-alone → y ≡ i5 p
-  unfolding i5
-  i5-no-card a z e = rw (not-false one-in-each-place a, z) e
-
-  pub i5-with-card : {y : Bool} → not one-in-each-place ≡ false → no-card-present ≡ false → not phone-yields ≡ false → y ≡ manufacturers-alone → y ≡ i5 p
-  unfolding i5
-  i5-with-card a z b e = rw (not-false one-in-each-place a, z, not-false phone-yields b) e
-
-  -- of one certificate: whether it is a valid operator root on the phone, the present card has one, and its owner is the card's
-  module _ (c : Certificate) where
-    abbrev on-phone : Bool
-    on-phone = valid-in 1 (p .trust .seen .clock) c && eqb (c .place) 0
-
-    abbrev on-card : Bool
-    on-card = has-valid-operator (p .trust) (p .trust .seen .card)
-
-    abbrev card-owner : Bool
-    card-owner = eqb (c .owner) (operator-of (p .cards) (p .trust .seen .card))
-
-    pub yields-elsewhere : on-phone ≡ false → true ≡ yields-to-card p c
-    unfolding yields-to-card
-    yields-elsewhere h = spared on-phone (not on-card && card-owner) h
-
-    pub yields-never : on-phone ≡ true → on-card ≡ true → false ≡ yields-to-card p c
-    unfolding yields-to-card
-    yields-never h k = implied on-phone (not on-card && card-owner) h (rw k)
-
-    pub yields-owner : {y : Bool} → on-phone ≡ true → on-card ≡ false → y ≡ card-owner → y ≡ yields-to-card p c
-    unfolding yields-to-card
-    yields-owner h k e = implied on-phone (not on-card && card-owner) h (rw k e)
+  pub i8-told : {a b c m i : ℕ} {r : Fault} → T (i7 p) → a ≡ lowest (all (chained-in 1 (p .trust))) (p .executables)
+      → b ≡ lowest (all (chained-in 2 (p .trust))) (p .executables) → c ≡ lowest (all (chained-in 3 (p .trust))) (p .executables)
+      → m ≡ min a b → i ≡ min m c → Told 8 i (Site.Executable i) (length (p .executables)) r
+      → r ≡ cond (i8 p) no-fault (at-rule 8 (executable-site i8 p))
+  i8-told h ea eb ec em ei q =
+      placed (i8-grows p) no-executable (p .executables) no-fault (λ i. at-rule 8 (Site.Executable i))
+      (ei ∙ ap₂ min (em ∙ ap₂ min ea eb) ec ∙ sym (i8-lowest p h)) q

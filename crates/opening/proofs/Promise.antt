@@ -6,10 +6,9 @@ use mathlib.Core.Logic.{_≢_, _⊎_, inl, inr}
 use mathlib.Core.Path.{_≡_, refl, ap}
 use native.Mathlib.Omega.{arith}
 use lib.ListN.{getD}
-use Rattle.octets.proofs.Laws.{Bytes}
 use Rattle.records.specs.Phone.{decode, no-certificate, no-executable}
 use Rattle.records.specs.declared.Certificate.{Certificate}
-use Rattle.records.proofs.RoundTrip.{frame}
+use Rattle.records.specs.Frame.{Framed}
 use Rattle.rules.specs.ImageRules.{accepted}
 use Rattle.rules.proofs.Accepted.{Occupied}
 use Rattle.rules.proofs.Accepts.{accepted-out}
@@ -31,14 +30,14 @@ certificate-domain : (c : Certificate) → (c ≡ no-certificate) ⊎ Occupied c
 certificate-domain c (inl z) = let e : c .domain ≡ 0 = ap (λ x. x .domain) z in omega arith
 certificate-domain c (inr o) = o .domain .1
 
-pub accepted-image : (l : List ℕ) → Bytes l → accepted l ≡ true → Accepted-image l
-accepted-image l b h =
+pub accepted-image : (l : List ℕ) → Framed l → accepted l ≡ true → Accepted-image l
+accepted-image l f h =
     let w = accepted-out l h in
     let p = decode l in
     let held = w .1 .trust .held in
     record {
       accepted = h;
-      framed = frame l b (w .0);
+      framed = f;
       keyed = record { one-domain = held .keys; domains = λ c m. key-domain c (held .slots c m) };
       certificate-domains = at-each (λ c. c .domain ≤ 3) no-certificate (p .trust .certificates) (omega arith) (λ c m. certificate-domain c (held .slots c m));
       executable-domains = at-each (λ x. x .domain ≤ 3) no-executable (p .executables) (omega arith) (λ x m. executable-domain x (w .1 .executables x m));

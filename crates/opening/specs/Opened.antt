@@ -4,8 +4,10 @@ use mathlib.Core.Bool.{true}
 use mathlib.Core.List.{List}
 use mathlib.Core.Path.{_≡_}
 use Rattle.records.specs.Phone.{decode, certificate-at, executable-at}
-use Rattle.records.specs.Frame.{Framed}
-use Rattle.rules.specs.ImageRules.{accepted, «open»}
+use Rattle.records.specs.Frame.{framed, Framed}
+use Rattle.rules.specs.ImageRules.{i2, i3, i4, i5, accepted}
+use Rattle.rules.specs.Faults.{fault}
+use Rattle.rules.specs.declared.Fault.{Fault}
 use Rattle.chain.specs.Keys.{Keyed}
 
 -- an accepted image, with what code asks of one: its frame, one domain for a key, and domains that a table of four has room for
@@ -16,7 +18,15 @@ pub record Accepted-image (l : List ℕ) : Type 0 where
   pub certificate-domains : (i : ℕ) → certificate-at (decode l) i .domain ≤ 3
   pub executable-domains : (i : ℕ) → executable-at (decode l) i .domain ≤ 3
 
--- "opening an image answers 0 or 1"
-pub record Opened (l : List ℕ) (r : ℕ) : Type 0 where
-  pub answer : r ≡ «open» l
-  pub promise : r ≡ 0 → Accepted-image l
+-- "Opening an image .. should also tell the first broken rule, 1 to 8, and a byte offset"
+pub record Opened (l : List ℕ) (r : Fault) : Type 0 where
+  pub answer : r ≡ fault l
+  pub promise : r .rule ≡ 0 → Accepted-image l
+
+-- the rules up to I5 are kept
+pub record Kept (l : List ℕ) : Type 0 where
+  pub framed : framed l ≡ true
+  pub i2 : i2 (decode l) ≡ true
+  pub i3 : i3 (decode l) ≡ true
+  pub i4 : i4 (decode l) ≡ true
+  pub i5 : i5 (decode l) ≡ true

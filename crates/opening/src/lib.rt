@@ -1,280 +1,256 @@
-// Opening an image: 0, or 1 where one of the rules I1 to I8 is broken. They are tested in their order, one small function a rule.
-use records::Certificate;
+// Opening an image: the first of the rules I1 to I8 that is broken, and where. They are tested in their order, one small function a rule.
+mod sweeps;
+
+use records::Header;
 use records::image;
+use rules::Answer;
+use rules::Fault;
+use rules::Site;
+ghost use mathlib.Core.Bool.{true, cond};
 ghost use mathlib.Core.Path.{_≡_};
-ghost use lib.Dec.{T};
+ghost use Prim.Native.Nat.{min};
+ghost use lib.Dec.{T, ltb};
+ghost use lib.ListN.{length};
 ghost use Rattle.records.specs.Phone.{decode};
-ghost use Rattle.records.specs.Frame.{Framed};
-ghost use Rattle.rules.specs.Words.{all, all-pairs};
-ghost use Rattle.rules.specs.ImageRules.{known-place, card-owns, one-in-place, yields-to-card, one-manufacturer, i3, i4, i5, i7, i8};
-ghost use Rattle.chain.specs.Keys.{chained-in, good-slots};
-ghost use Rattle.opening.specs.Opened.{Opened};
+ghost use Rattle.records.specs.Frame.{framed, Framed};
+ghost use Rattle.rules.specs.Words.{all};
+ghost use Rattle.rules.specs.ImageRules.{row-fits, i2, i3, i4, i5, i6, i7, i8};
+ghost use Rattle.rules.specs.Faults.{lowest, certificate-site, executable-site, i3-site, no-fault, at-rule, fault, fault-offset};
+ghost use Rattle.rules.specs.Step.{refused-at};
+ghost use Rattle.chain.specs.Keys.{chained-in};
+ghost use Rattle.opening.specs.Opened.{Kept, Opened};
 
-// ---- I3 Card
-
-fn places_known(s: &[u8]) -> bool
-    requires { ⌜ Framed (now s) ⌝ }
-    ensures { λ r. ⌜ r ≡ all (λ c. known-place (decode (now (s .entry)) .cards) (c .place)) (decode (now (s .entry)) .trust .certificates) ⌝ }
+fn least(a: usize, b: usize) -> usize
+    ensures { λ r. ⌜ r ≡ min a b ⌝ }
 {
-    let slots = image::certificate_slots(s);
-    let mut i: usize = 0;
-    while i < slots {
-        if !lookup::known_place(s, image::certificate(s, i).place) {
-            return false;
-        }
-        i += 1;
+    if a < b {
+        return a;
     }
-    true
+    b
 }
 
-fn i3(s: &[u8]) -> bool
-    requires { ⌜ Framed (now s) ⌝ }
-    ensures { λ r. ⌜ r ≡ i3 (decode (now (s .entry))) ⌝ }
+// ---- a record that breaks a rule, if there is one
+
+fn no_fault() -> Fault
+    ensures { λ r. ⌜ r ≡ no-fault ⌝ }
 {
-    if !forms::cards_fit(s) {
-        return false;
+    Fault {
+        rule: 0,
+        site: Site::Header(0),
     }
-    if !forms::numbers_distinct(s) {
-        return false;
+}
+
+fn at_certificate(s: &[u8], rule: u8, i: usize) -> Fault
+    requires { ⌜ Framed (now s) ⌝ }
+    ensures { λ r. ⌜ r ≡ cond (ltb i (length (decode (now (s .entry)) .trust .certificates))) (at-rule rule (Site.Certificate i)) no-fault ⌝ }
+{
+    if i < image::certificate_slots(s) {
+        return Fault {
+            rule: rule,
+            site: Site::Certificate(i),
+        };
     }
+    no_fault()
+}
+
+fn at_card(s: &[u8], rule: u8, i: usize) -> Fault
+    requires { ⌜ Framed (now s) ⌝ }
+    ensures { λ r. ⌜ r ≡ cond (ltb i (length (decode (now (s .entry)) .cards))) (at-rule rule (Site.Card i)) no-fault ⌝ }
+{
+    if i < image::card_count(s) {
+        return Fault {
+            rule: rule,
+            site: Site::Card(i),
+        };
+    }
+    no_fault()
+}
+
+fn at_executable(s: &[u8], rule: u8, i: usize) -> Fault
+    requires { ⌜ Framed (now s) ⌝ }
+    ensures { λ r. ⌜ r ≡ cond (ltb i (length (decode (now (s .entry)) .executables))) (at-rule rule (Site.Executable i)) no-fault ⌝ }
+{
+    if i < image::executable_slots(s) {
+        return Fault {
+            rule: rule,
+            site: Site::Executable(i),
+        };
+    }
+    no_fault()
+}
+
+fn at_row(s: &[u8], rule: u8, i: usize) -> Fault
+    requires { ⌜ Framed (now s) ⌝ }
+    ensures { λ r. ⌜ r ≡ cond (ltb i (length (decode (now (s .entry)) .table))) (at-rule rule (Site.Row i)) no-fault ⌝ }
+{
+    if i < image::action_count(s) {
+        return Fault {
+            rule: rule,
+            site: Site::Row(i),
+        };
+    }
+    no_fault()
+}
+
+// ---- the rules
+
+fn i2(s: &[u8]) -> Fault
+    requires { ⌜ Framed (now s) ⌝ }
+    ensures { λ r. ⌜ r ≡ cond (i2 (decode (now (s .entry)))) no-fault (at-rule 2 (certificate-site i2 (decode (now (s .entry))))) ⌝ }
+{
+    at_certificate(s, 2, sweeps::slots_fit(s))
+}
+
+// The card present, then certificates, which stand below the cards.
+fn i3(s: &[u8]) -> Fault
+    requires { ⌜ Framed (now s) ⌝ }
+    ensures { λ r. ⌜ r ≡ cond (i3 (decode (now (s .entry)))) no-fault (at-rule 3 (i3-site (decode (now (s .entry))))) ⌝ }
+{
     if !lookup::known_place(s, image::card_present(s)) {
-        return false;
+        return Fault {
+            rule: 3,
+            site: Site::Header(Header::CARD),
+        };
     }
-    places_known(s)
+    let placed = at_certificate(s, 3, sweeps::places_known(s));
+    if placed.rule != 0 {
+        return placed;
+    }
+    at_card(s, 3, sweeps::cards(s))
 }
 
-// ---- I4
-
-fn card_owns(s: &[u8], c: Certificate) -> bool
+fn i4(s: &[u8]) -> Fault
     requires { ⌜ Framed (now s) ⌝ }
-    ensures { λ r. ⌜ r ≡ card-owns (decode (now (s .entry)) .cards) c ⌝ }
+    ensures { λ r. ⌜ r ≡ cond (i4 (decode (now (s .entry)))) no-fault (at-rule 4 (certificate-site i4 (decode (now (s .entry))))) ⌝ }
 {
-    if (c.kind == 0) & (c.domain == 1) & (c.place != 0) {
-        return c.owner == lookup::operator_of(s, c.place);
-    }
-    true
+    at_certificate(s, 4, sweeps::i4(s))
 }
 
-fn owners_fit(s: &[u8]) -> bool
+fn i5(s: &[u8]) -> Fault
     requires { ⌜ Framed (now s) ⌝ }
-    ensures { λ r. ⌜ r ≡ all (card-owns (decode (now (s .entry)) .cards)) (decode (now (s .entry)) .trust .certificates) ⌝ }
+    ensures { λ r. ⌜ r ≡ cond (i5 (decode (now (s .entry)))) no-fault (at-rule 5 (certificate-site i5 (decode (now (s .entry))))) ⌝ }
 {
-    let slots = image::certificate_slots(s);
-    let mut i: usize = 0;
-    while i < slots {
-        if !card_owns(s, image::certificate(s, i)) {
-            return false;
-        }
-        i += 1;
-    }
-    true
+    at_certificate(s, 5, sweeps::i5(s))
 }
 
-fn i4(s: &[u8]) -> bool
+fn i6(s: &[u8]) -> Fault
     requires { ⌜ Framed (now s) ⌝ }
-    ensures { λ r. ⌜ r ≡ i4 (decode (now (s .entry))) ⌝ }
+    ensures { λ r. ⌜ r ≡ cond (i6 (decode (now (s .entry)))) no-fault (at-rule 6 (Site.Row (lowest (all row-fits) (decode (now (s .entry)) .table)))) ⌝ }
 {
-    if !forms::ids_distinct(s) {
-        return false;
-    }
-    if !forms::keys_apart(s) {
-        return false;
-    }
-    owners_fit(s)
+    at_row(s, 6, sweeps::rows_fit(s))
 }
 
-// ---- I5
-
-fn one_in_place(clock: u32, c: Certificate, e: Certificate) -> bool
-    ensures { λ r. ⌜ r ≡ one-in-place clock c e ⌝ }
-{
-    !(lookup::valid_in(1, clock, c) & lookup::valid_in(1, clock, e) & (c.place == e.place))
-        | (c.id == e.id)
-}
-
-// Whether c is the only valid operator root in its place, if it is one.
-fn alone_in_place(s: &[u8], c: Certificate) -> bool
+fn i7(s: &[u8]) -> Fault
     requires { ⌜ Framed (now s) ⌝ }
-    ensures { λ r. ⌜ r ≡ all (one-in-place (decode (now (s .entry)) .trust .seen .clock) c) (decode (now (s .entry)) .trust .certificates) ⌝ }
+    ensures { λ r. ⌜ r ≡ cond (i7 (decode (now (s .entry)))) no-fault (at-rule 7 (executable-site i7 (decode (now (s .entry))))) ⌝ }
 {
-    let slots = image::certificate_slots(s);
-    let mut j: usize = 0;
-    while j < slots {
-        if !one_in_place(image::clock(s), c, image::certificate(s, j)) {
-            return false;
-        }
-        j += 1;
-    }
-    true
+    at_executable(s, 7, sweeps::i7(s))
 }
 
-fn one_in_each_place(s: &[u8]) -> bool
+// The lowest executable of a domain that does not chain to it.
+fn domain_chained(s: &[u8], domain: u8) -> usize
     requires { ⌜ Framed (now s) ⌝ }
-    ensures { λ r. ⌜ r ≡ all-pairs (one-in-place (decode (now (s .entry)) .trust .seen .clock)) (decode (now (s .entry)) .trust .certificates) ⌝ }
+    ensures { λ r. ⌜ r ≡ lowest (all (chained-in domain (decode (now (s .entry)) .trust))) (decode (now (s .entry)) .executables) ⌝ }
 {
-    let slots = image::certificate_slots(s);
-    let mut i: usize = 0;
-    while i < slots {
-        if !alone_in_place(s, image::certificate(s, i)) {
-            return false;
-        }
-        i += 1;
-    }
-    true
-}
-
-fn yields_to_card(s: &[u8], c: Certificate) -> bool
-    requires { ⌜ Framed (now s) ⌝ }
-    ensures { λ r. ⌜ r ≡ yields-to-card (decode (now (s .entry))) c ⌝ }
-{
-    if lookup::valid_in(1, image::clock(s), c) & (c.place == 0) {
-        let card = image::card_present(s);
-        if lookup::has_valid_operator(s, card) {
-            return false;
-        }
-        return c.owner == lookup::operator_of(s, card);
-    }
-    true
-}
-
-fn phone_yields(s: &[u8]) -> bool
-    requires { ⌜ Framed (now s) ⌝ }
-    ensures { λ r. ⌜ r ≡ all (yields-to-card (decode (now (s .entry)))) (decode (now (s .entry)) .trust .certificates) ⌝ }
-{
-    let slots = image::certificate_slots(s);
-    let mut i: usize = 0;
-    while i < slots {
-        if !yields_to_card(s, image::certificate(s, i)) {
-            return false;
-        }
-        i += 1;
-    }
-    true
-}
-
-fn one_manufacturer(clock: u32, c: Certificate, e: Certificate) -> bool
-    ensures { λ r. ⌜ r ≡ one-manufacturer clock c e ⌝ }
-{
-    !(lookup::valid_in(2, clock, c) & lookup::valid_in(2, clock, e)) | (c.id == e.id)
-}
-
-// Whether c is the only valid manufacturer root, if it is one.
-fn alone_as_manufacturer(s: &[u8], c: Certificate) -> bool
-    requires { ⌜ Framed (now s) ⌝ }
-    ensures { λ r. ⌜ r ≡ all (one-manufacturer (decode (now (s .entry)) .trust .seen .clock) c) (decode (now (s .entry)) .trust .certificates) ⌝ }
-{
-    let slots = image::certificate_slots(s);
-    let mut j: usize = 0;
-    while j < slots {
-        if !one_manufacturer(image::clock(s), c, image::certificate(s, j)) {
-            return false;
-        }
-        j += 1;
-    }
-    true
-}
-
-fn manufacturers_alone(s: &[u8]) -> bool
-    requires { ⌜ Framed (now s) ⌝ }
-    ensures { λ r. ⌜ r ≡ all-pairs (one-manufacturer (decode (now (s .entry)) .trust .seen .clock)) (decode (now (s .entry)) .trust .certificates) ⌝ }
-{
-    let slots = image::certificate_slots(s);
-    let mut i: usize = 0;
-    while i < slots {
-        if !alone_as_manufacturer(s, image::certificate(s, i)) {
-            return false;
-        }
-        i += 1;
-    }
-    true
-}
-
-fn i5(s: &[u8]) -> bool
-    requires { ⌜ Framed (now s) ⌝ }
-    ensures { λ r. ⌜ r ≡ i5 (decode (now (s .entry))) ⌝ }
-{
-    if !one_in_each_place(s) {
-        return false;
-    }
-    if image::card_present(s) != 0 {
-        if !phone_yields(s) {
-            return false;
-        }
-    }
-    manufacturers_alone(s)
-}
-
-// ---- I8
-
-// Whether every executable of a domain chains to it, by the good slots of the domain.
-fn all_chained(s: &[u8], domain: u8, good: u64) -> bool
-    requires { ⌜ Framed (now s) ⌝ }
-    requires { ⌜ good ≡ good-slots (decode (now s) .trust) domain ⌝ }
-    ensures { λ r. ⌜ r ≡ all (chained-in domain (decode (now (s .entry)) .trust)) (decode (now (s .entry)) .executables) ⌝ }
-{
-    let slots = image::executable_slots(s);
-    let mut i: usize = 0;
-    while i < slots {
-        if !chain::is_chained(s, domain, good, image::executable(s, i)) {
-            return false;
-        }
-        i += 1;
-    }
-    true
-}
-
-// Whether every executable of a domain chains to it.
-fn domain_chained(s: &[u8], domain: u8) -> bool
-    requires { ⌜ Framed (now s) ⌝ }
-    ensures { λ r. ⌜ r ≡ all (chained-in domain (decode (now (s .entry)) .trust)) (decode (now (s .entry)) .executables) ⌝ }
-{
-    all_chained(s, domain, chain::good_slots(s, domain))
+    sweeps::chained(s, domain, chain::good_slots(s, domain))
 }
 
 // By domains, of which I7 allows 1 to 3.
-fn i8(s: &[u8]) -> bool
+fn i8(s: &[u8]) -> Fault
     requires { ⌜ Framed (now s) ⌝ }
     requires { ⌜ T (i7 (decode (now s))) ⌝ }
-    ensures { λ r. ⌜ r ≡ i8 (decode (now (s .entry))) ⌝ }
+    ensures { λ r. ⌜ r ≡ cond (i8 (decode (now (s .entry)))) no-fault (at-rule 8 (executable-site i8 (decode (now (s .entry))))) ⌝ }
 {
-    if !domain_chained(s, 1) {
-        return false;
-    }
-    if !domain_chained(s, 2) {
-        return false;
-    }
-    domain_chained(s, 3)
+    let operator = domain_chained(s, 1);
+    let manufacturer = domain_chained(s, 2);
+    let third = domain_chained(s, 3);
+    at_executable(s, 8, least(least(operator, manufacturer), third))
 }
 
 // ---- all of them
 
-// Any bytes: 0, or 1 where a rule is broken.
-pub fn open(s: &[u8]) -> u8
+// The rules from I6 on.
+fn last_fault(s: &[u8]) -> Fault
+    requires { ⌜ Framed (now s) ⌝ }
+    requires { ⌜ Kept (now s) ⌝ }
+    ensures { λ r. ⌜ Opened (now (s .entry)) r ⌝ }
+{
+    let found = i6(s);
+    if found.rule != 0 {
+        return found;
+    }
+    let found = i7(s);
+    if found.rule != 0 {
+        return found;
+    }
+    i8(s)
+}
+
+// The rules from I2 on.
+fn next_fault(s: &[u8]) -> Fault
+    requires { ⌜ Framed (now s) ⌝ }
+    requires { ⌜ framed (now s) ≡ true ⌝ }
+    ensures { λ r. ⌜ Opened (now (s .entry)) r ⌝ }
+{
+    let found = i2(s);
+    if found.rule != 0 {
+        return found;
+    }
+    let found = i3(s);
+    if found.rule != 0 {
+        return found;
+    }
+    let found = i4(s);
+    if found.rule != 0 {
+        return found;
+    }
+    let found = i5(s);
+    if found.rule != 0 {
+        return found;
+    }
+    last_fault(s)
+}
+
+// Any bytes: the first broken rule and where, or 0 and the first byte.
+pub fn open(s: &[u8]) -> Fault
     ensures { λ r. ⌜ Opened (now (s .entry)) r ⌝ }
 {
     if !image::is_framed(s) {
-        return 1;
+        return Fault {
+            rule: 1,
+            site: Site::Header(image::header_fault(s)),
+        };
     }
-    if !forms::i2(s) {
-        return 1;
+    next_fault(s)
+}
+
+// ---- what is told of one that is broken
+
+// The first byte of what is wrong.
+fn offset(s: &[u8], f: Fault) -> u16
+    requires { ⌜ f ≡ fault (now s) ⌝ }
+    ensures { λ r. ⌜ r ≡ fault-offset (now (s .entry)) ⌝ }
+{
+    let site = f.site;
+    match site {
+        Site::Header(byte) => byte as u16,
+        Site::Certificate(i) => image::certificate_offset(s, i),
+        Site::Card(i) => image::card_offset(s, i),
+        Site::Executable(i) => image::executable_offset(s, i),
+        Site::Row(i) => image::row_offset(s, i),
     }
-    if !i3(s) {
-        return 1;
+}
+
+// "code 1 as before; the answer gains two numbers".
+pub fn refused_at(s: &[u8], f: Fault) -> Answer
+    requires { ⌜ f ≡ fault (now s) ⌝ }
+    ensures { λ r. ⌜ r ≡ refused-at (now (s .entry)) ⌝ }
+{
+    Answer {
+        code: 1,
+        domain: 0,
+        links: 0,
+        rule: f.rule,
+        offset: offset(s, f),
     }
-    if !i4(s) {
-        return 1;
-    }
-    if !i5(s) {
-        return 1;
-    }
-    if !forms::i6(s) {
-        return 1;
-    }
-    if !forms::i7(s) {
-        return 1;
-    }
-    if !i8(s) {
-        return 1;
-    }
-    0
 }

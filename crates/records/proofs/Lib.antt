@@ -6,3 +6,4 @@ pub mod Said
 pub mod Fields
 pub mod RoundTrip
 pub mod Writes
+pub mod Wrong

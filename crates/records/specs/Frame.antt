@@ -1,7 +1,7 @@
 -- The frame of an image: rule I1 as a test, and what it is worth. Definitions only.
 use Prim.Native.Nat.{ℕ, _≤_}
-use mathlib.Core.Bool.{Bool, _&&_}
-use mathlib.Core.List.{List}
+use mathlib.Core.Bool.{Bool, cond, _&&_}
+use mathlib.Core.List.{List, [], _∷_}
 use mathlib.Core.Path.{_≡_}
 use lib.ListN.{length}
 use lib.Dec.{eqb, leb}
@@ -29,6 +29,55 @@ header-fits l =
 -- I1: "A shorter buffer breaks I1"
 unfoldable pub framed : List ℕ → Bool
 framed l = leb header-size (length l) && header-fits l
+
+-- ---- where it is not framed
+
+-- a field of the header, by its first byte, and whether it is right
+infix 20 _right-if_
+pub data Field : Type 0 where
+  _right-if_ : ℕ → Bool → Field
+
+-- the first byte of the first field that is wrong, and of the last where those before it are right
+unfoldable pub first-wrong : List Field → ℕ → ℕ
+first-wrong [] last = last
+first-wrong ((byte right-if b) ∷ l) last = cond b (first-wrong l last) byte
+
+-- I1's fields in the order of its sentence, those that can be wrong: where the parts are
+abbrev pub part-fields : List ℕ → List Field
+part-fields l =
+    (20 right-if eqb (certificates-at l) certificates-start)
+    ∷ (24 right-if eqb (cards-at l) (cards-from l))
+    ∷ (28 right-if eqb (executables-at l) (executables-from l))
+    ∷ (32 right-if eqb (table-at l) (table-from l))
+    ∷ []
+
+-- the same from the number of actions on
+abbrev pub setting-fields : List ℕ → List Field
+setting-fields l =
+    (8 right-if (leb 1 (action-count l) && leb (action-count l) most-actions))
+    ∷ (10 right-if leb (standing-mode l) 2)
+    ∷ (14 right-if eqb (header-zero l) 0)
+    ∷ part-fields l
+
+-- the same from the version on, all but the total
+abbrev pub header-fields : List ℕ → List Field
+header-fields l =
+    (0 right-if eqb (version l) image-version)
+    ∷ (2 right-if leb (certificate-slots l) most-certificates)
+    ∷ (4 right-if leb (card-count l) most-cards)
+    ∷ (6 right-if leb (executable-slots l) most-executables)
+    ∷ setting-fields l
+
+abbrev pub total-byte : ℕ
+total-byte = 36
+
+-- "The total is the table's end and the buffer's length."
+abbrev pub total-field : List ℕ → Field
+total-field l = total-byte right-if (eqb (total-length l) (ends-at l) && eqb (length l) (ends-at l))
+
+-- 02, item 1: "for I1 the first header byte of the first wrong field"; "A buffer shorter than 40 bytes gives rule 1 and its length."
+unfoldable pub header-fault : List ℕ → ℕ
+header-fault l = cond (leb header-size (length l)) (first-wrong (header-fields l) total-byte) (length l)
 
 -- a phone that an image has room for
 pub record Sized (p : Phone) : Type 0 where

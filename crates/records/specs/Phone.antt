@@ -158,6 +158,20 @@ executable-at p i = getD (p .executables) i no-executable
 abbrev pub row-at : Phone → ℕ → Row
 row-at p i = getD (p .table) i no-row
 
+-- ---- the first byte of a record
+
+abbrev pub certificate-offset : ℕ → ℕ
+certificate-offset i = certificates-start + i * certificate-size
+
+abbrev pub card-offset : Phone → ℕ → ℕ
+card-offset p i = cards-start (length (p .trust .certificates)) + i * card-size
+
+abbrev pub executable-offset : Phone → ℕ → ℕ
+executable-offset p i = executables-start (length (p .trust .certificates)) (length (p .cards)) + i * executable-size
+
+abbrev pub row-offset : Phone → ℕ → ℕ
+row-offset p i = table-start (length (p .trust .certificates)) (length (p .cards)) (length (p .executables)) + i * row-size
+
 -- ---- a phone or a record with one thing changed
 
 abbrev pub with-trust : Trust → Phone → Phone

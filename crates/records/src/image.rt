@@ -10,8 +10,8 @@ ghost use lib.Dec.{eqb};
 ghost use lib.ListN.{length};
 ghost use Rattle.records.specs.Sizes.{most-certificates, most-cards, most-executables, most-actions};
 ghost use Rattle.records.specs.Layout.{row-byte};
-ghost use Rattle.records.specs.Phone.{decode, encode, no-certificate, no-executable, certificate-at, card-at, executable-at, row-at, with-clock, with-card, with-mode, put-certificate, put-executable, marked, enabling, in-domain, permitted};
-ghost use Rattle.records.specs.Frame.{framed, header-fits, Framed};
+ghost use Rattle.records.specs.Phone.{decode, encode, no-certificate, no-executable, certificate-at, card-at, executable-at, row-at, certificate-offset, card-offset, executable-offset, row-offset, with-clock, with-card, with-mode, put-certificate, put-executable, marked, enabling, in-domain, permitted};
+ghost use Rattle.records.specs.Frame.{framed, header-fits, part-fields, setting-fields, total-byte, first-wrong, header-fault, Framed};
 
 // ---- is it framed?
 
@@ -51,6 +51,76 @@ pub fn is_framed(s: &[u8]) -> bool
         return false;
     }
     header_fits(s)
+}
+
+// ---- and where is it not?
+
+// The first wrong field of those that say where the parts are; the total where the others are right.
+fn parts_fault(s: &[u8]) -> usize
+    requires { ⌜ 40 ≤ length (now s) ⌝ }
+    ensures { λ r. ⌜ r ≡ first-wrong (part-fields (now (s .entry))) total-byte ⌝ }
+{
+    let cards = Header::SIZE as u32
+        + Header::certificate_slots(s) as u32 * Certificate::SIZE as u32;
+    let executables = cards + Header::card_count(s) as u32 * Card::SIZE as u32;
+    let table = executables + Header::executable_slots(s) as u32 * Executable::SIZE as u32;
+    if Header::certificates_at(s) != 40 {
+        return Header::CERTIFICATES_AT;
+    }
+    if Header::cards_at(s) != cards {
+        return Header::CARDS_AT;
+    }
+    if Header::executables_at(s) != executables {
+        return Header::EXECUTABLES_AT;
+    }
+    if Header::table_at(s) != table {
+        return Header::TABLE_AT;
+    }
+    Header::TOTAL
+}
+
+// The same from the number of actions on.
+fn settings_fault(s: &[u8]) -> usize
+    requires { ⌜ 40 ≤ length (now s) ⌝ }
+    ensures { λ r. ⌜ r ≡ first-wrong (setting-fields (now (s .entry))) total-byte ⌝ }
+{
+    let actions = Header::action_count(s);
+    if actions == 0 {
+        return Header::ACTION_COUNT;
+    }
+    if actions > 32 {
+        return Header::ACTION_COUNT;
+    }
+    if Header::mode(s) > 2 {
+        return Header::MODE;
+    }
+    if Header::blank(s) != 0 {
+        return Header::BLANK;
+    }
+    parts_fault(s)
+}
+
+// The first byte of the first wrong field, for bytes that are not framed; of a buffer that is too short, its length.
+pub fn header_fault(s: &[u8]) -> usize
+    ensures { λ r. ⌜ r ≡ header-fault (now (s .entry)) ⌝ }
+{
+    let size = s.len();
+    if size < Header::SIZE {
+        return size;
+    }
+    if Header::version(s) != 1 {
+        return Header::VERSION;
+    }
+    if Header::certificate_slots(s) > 64 {
+        return Header::CERTIFICATE_SLOTS;
+    }
+    if Header::card_count(s) > 8 {
+        return Header::CARD_COUNT;
+    }
+    if Header::executable_slots(s) > 64 {
+        return Header::EXECUTABLE_SLOTS;
+    }
+    settings_fault(s)
 }
 
 // ---- the header
@@ -175,6 +245,40 @@ pub fn table_byte(s: &[u8], i: usize, domain: u8) -> u8
         s,
         Header::table_at(s) as usize + i * Row::SIZE + domain as usize,
     )
+}
+
+// ---- the first byte of a record
+
+pub fn certificate_offset(s: &[u8], i: usize) -> u16
+    requires { ⌜ Framed (now s) ⌝ }
+    requires { ⌜ i < length (decode (now s) .trust .certificates) ⌝ }
+    ensures { λ r. ⌜ r ≡ certificate-offset i ⌝ }
+{
+    (Header::SIZE + i * Certificate::SIZE) as u16
+}
+
+pub fn card_offset(s: &[u8], i: usize) -> u16
+    requires { ⌜ Framed (now s) ⌝ }
+    requires { ⌜ i < length (decode (now s) .cards) ⌝ }
+    ensures { λ r. ⌜ r ≡ card-offset (decode (now (s .entry))) i ⌝ }
+{
+    (Header::cards_at(s) as usize + i * Card::SIZE) as u16
+}
+
+pub fn executable_offset(s: &[u8], i: usize) -> u16
+    requires { ⌜ Framed (now s) ⌝ }
+    requires { ⌜ i < length (decode (now s) .executables) ⌝ }
+    ensures { λ r. ⌜ r ≡ executable-offset (decode (now (s .entry))) i ⌝ }
+{
+    (Header::executables_at(s) as usize + i * Executable::SIZE) as u16
+}
+
+pub fn row_offset(s: &[u8], i: usize) -> u16
+    requires { ⌜ Framed (now s) ⌝ }
+    requires { ⌜ i < length (decode (now s) .table) ⌝ }
+    ensures { λ r. ⌜ r ≡ row-offset (decode (now (s .entry))) i ⌝ }
+{
+    (Header::table_at(s) as usize + i * Row::SIZE) as u16
 }
 
 // ---- changes

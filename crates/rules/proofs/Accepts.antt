@@ -14,10 +14,11 @@ use Rattle.rules.specs.Words.{all, all-pairs, Check, _⇒_}
 use Rattle.rules.specs.Chains.{chains-to}
 use Rattle.rules.specs.ImageRules.{known-place, row-fits, key-of-one-domain, card-owns, one-in-place, yields-to-card, one-manufacturer}
 use Rattle.rules.specs.ImageRules.{i1, i2, i3, i4, i5, i6, i7, i8, broken, accepted}
+use Rattle.rules.specs.Parts.{slot-fits, card-fits, program-fits, chained-fits}
 use Rattle.rules.proofs.Tests.{tests, is, isnt, and-i, or-j, or-cases, by-test, not-elim, not-intro, Passes, first-out, first-in}
 use Rattle.rules.proofs.Lists.{all-out, all-in, pairs-out, pairs-in}
 use Rattle.rules.proofs.Accepted.{Held, Valid, Marks, Accepted}
-use Rattle.rules.proofs.Fits.{slot-fits, card-fits, program-fits, slot-out, slot-in, named-out, named-in, executable-out, executable-in}
+use Rattle.rules.proofs.Fits.{slot-out, slot-in, named-out, named-in, executable-out, executable-in}
 use Rattle.rules.proofs.Pairs.{key-out, key-in, owns-out, owns-in, in-place-out, in-place-in, manufacturer-out, manufacturer-in, has-valid-in, has-valid-out, Yields, yields-out, yields-in}
 
 -- the tests of a phone
@@ -57,7 +58,7 @@ yields p h nz c m =
     go (inl t) = absurd (nz (is (p .trust .seen .card) 0 t))
     go (inr t) = yields-out p c (all-out (yields-to-card p) (p .trust .certificates) t c m)
 
-marks-out : (p : Phone) → T (i5 p) → Marks (p .cards) (p .trust .seen) (p .trust .certificates)
+pub marks-out : (p : Phone) → T (i5 p) → Marks (p .cards) (p .trust .seen) (p .trust .certificates)
 unfolding i5
 marks-out p h =
     let l = p .trust .certificates in
@@ -72,9 +73,6 @@ marks-out p h =
     }
 
 -- I8, of one executable
-abbrev pub chained-fits : Trust → Executable → Bool
-chained-fits t x = eqb (x .domain) 0 || chains-to t (x .signing) (x .domain)
-
 pub chained-out : (t : Trust) (x : Executable) → T (chained-fits t x) → x .domain ≢ 0 → T (chains-to t (x .signing) (x .domain))
 chained-out t x h nz = go (or-cases (eqb (x .domain) 0) (chains-to t (x .signing) (x .domain)) h)
   where
@@ -108,7 +106,7 @@ i4-in p h =
     let o : T (all (card-owns (p .cards)) l) = all-in (card-owns (p .cards)) l (λ c m. owns-in (p .cards) c (h .owners c m)) in
     search (and-i, h .ids)
 
-i5-in : (p : Phone) → Marks (p .cards) (p .trust .seen) (p .trust .certificates) → T (i5 p)
+pub i5-in : (p : Phone) → Marks (p .cards) (p .trust .seen) (p .trust .certificates) → T (i5 p)
 unfolding i5
 i5-in p o = search (and-i, each, none, maker)
   where

@@ -11,18 +11,9 @@ use Rattle.records.specs.declared.Card.{Card}
 use Rattle.records.specs.declared.Executable.{Executable}
 use Rattle.rules.specs.Words.{_implies_, all-zero}
 use Rattle.rules.specs.ImageRules.{free-certificate, free-executable, zero-certificate, certificate-ranges, root-fits, issued-fits, certificate-fits, zero-executable, executable-fits}
+use Rattle.rules.specs.Parts.{slot-fits, card-fits, program-fits}
 use Rattle.rules.proofs.Tests.{tests, is, si, isnt, tnsi, and-i, or-i, or-cases, by-test, cond-no, yes-cond, no-cond, implies-out, implies-in}
 use Rattle.rules.proofs.Accepted.{Occupied, Named, Stored}
-
--- the tests that the rules ask of a slot and of a card
-abbrev pub slot-fits : Certificate → Bool
-slot-fits c = cond (free-certificate c) (zero-certificate c) (certificate-fits c)
-
-abbrev pub card-fits : Card → Bool
-card-fits k = not (eqb (k .number) 0) && eqb (k .blank) 0
-
-abbrev pub program-fits : ℕ → Executable → Bool
-program-fits n x = cond (free-executable x) (zero-executable x) (executable-fits n x)
 
 -- orders among the tests
 ruleset ranges = (tests, leb→le, le→leb, ltb→lt, lt→ltb)

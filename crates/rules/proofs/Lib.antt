@@ -15,3 +15,7 @@ pub mod Keys
 pub mod Shortest
 pub mod Domain
 pub mod Pairs
+pub mod Lowest
+pub mod More
+pub mod Faults
+pub mod Where

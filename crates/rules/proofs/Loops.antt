@@ -1,15 +1,14 @@
--- What a loop over slots keeps: `any`, `all`, `find` and `distinct` of what is left of the list, from slot i on. Assumes nothing.
+-- What a loop over slots keeps: `any`, `all` and `find` of what is left of the list, from slot i on. Assumes nothing.
 use Prim.Native.Nat.{ℕ, _+_, _≤_, _<_}
-use mathlib.Core.Bool.{Bool, true, false, not, _&&_, _||_}
-use mathlib.Core.List.{List, [], _∷_, map}
-use mathlib.Core.Path.{_≡_, refl, sym, ap, subst, _∙_}
+use mathlib.Core.Bool.{Bool, true, false, not, _||_}
+use mathlib.Core.List.{List, _∷_}
+use mathlib.Core.Path.{_≡_, sym, ap, subst, _∙_}
 use native.Mathlib.Numerals.{add-one}
 use native.Mathlib.Omega.{arith}
-use lib.Dec.{eqb}
 use lib.ListN.{length, getD, drop, drop-of-length-le}
 use lib.Seq.{drop-cons}
 use borrow.Author.Tests.{not-true, not-false}
-use Rattle.rules.specs.Words.{any, all, find, distinct}
+use Rattle.rules.specs.Words.{any, all, find}
 
 module _ {A : Type 0} (d : A) (l : List A) (i : ℕ) where
   -- what is left of the list, its first slot apart
@@ -65,21 +64,6 @@ module _ {A : Type 0} (d : A) (l : List A) (i : ℕ) where
     unfolding find
     find-end h = rw (drop-of-length-le l h)
 
-any-map : {A : Type 0} (f : A → ℕ) (g : ℕ → Bool) (l : List A) → any g (map f l) ≡ any (λ x. g (f x)) l
-unfolding any
-any-map f g [] = refl
-any-map f g (x ∷ l) = ap (λ b. g (f x) || b) (any-map f g l)
-
-or-not : (a b : Bool) → (a || not b) ≡ not (not a && b)
-or-not true b = refl
-or-not false b = refl
-
-distinct-cons : {A : Type 0} (f : A → ℕ) (x : A) (l : List A) → distinct (map f (x ∷ l)) ≡ (not (not (eqb (f x) 0) && any (λ y. eqb (f x) (f y)) l) && distinct (map f l))
-unfolding distinct
-distinct-cons f x l =
-    ap (λ b. (eqb (f x) 0 || not b) && distinct (map f l)) (any-map f (eqb (f x)) l)
-    ∙ ap (λ b. b && distinct (map f l)) (or-not (eqb (f x) 0) (any (λ y. eqb (f x) (f y)) l))
-
 -- ---- what a loop answers: w is what is asked, x the slot that is looked at, and b what its test gives
 
 module _ {A : Type 0} (d : A) (l : List A) (i : ℕ) where
@@ -101,22 +85,3 @@ module _ {A : Type 0} (d : A) (l : List A) (i : ℕ) where
 
     pub any-fails : any f (drop i l) ≡ w → length l ≤ i → false ≡ w
     any-fails inv h = sym (any-end d l i f h) ∙ inv
-
-  -- numbers f of the slots that differ, but for 0; a number stands again where it is not 0 and a later slot has it
-  module _ (f : A → ℕ) where
-    abbrev pub again : Bool
-    again = not (eqb (f (getD l i d)) 0) && any (λ x. eqb (f (getD l i d)) (f x)) (drop (i + 1) l)
-
-    distinct-rest : i < length l → distinct (map f (drop i l)) ≡ (not again && distinct (map f (drop (i + 1) l)))
-    distinct-rest h = ap (λ r. distinct (map f r)) (rest d l i h) ∙ distinct-cons f (getD l i d) (drop (i + 1) l)
-
-    module _ (w : Bool) where
-      pub distinct-stops : {b : Bool} → distinct (map f (drop i l)) ≡ w → i < length l → b ≡ again → b ≡ true → false ≡ w
-      distinct-stops inv h t e = sym (rw (sym t ∙ e) at distinct-rest h) ∙ inv
-
-      pub distinct-goes-on : {b : Bool} → distinct (map f (drop i l)) ≡ w → i < length l → b ≡ again → b ≡ false → distinct (map f (drop (i + 1) l)) ≡ w
-      distinct-goes-on inv h t e = sym (rw (sym t ∙ e) at distinct-rest h) ∙ inv
-
-      pub distinct-passes : distinct (map f (drop i l)) ≡ w → length l ≤ i → true ≡ w
-      unfolding distinct
-      distinct-passes inv h = rw (drop-of-length-le l h) at inv

@@ -5,10 +5,11 @@ use mathlib.Core.List.{List, List·Memᴰ}
 use mathlib.Core.Logic.{_≢_}
 use mathlib.Core.Path.{_≡_}
 use lib.Dec.{T, eqb, T-not, not-T}
-use Rattle.records.specs.Phone.{Trust, Phone}
+use Rattle.records.specs.Phone.{Seen, Trust, Phone}
 use Rattle.records.specs.declared.Certificate.{Certificate}
 use Rattle.records.specs.declared.Card.{Card}
 use Rattle.rules.specs.ImageRules.{operator-of, operator-root, valid-in, has-valid-operator, key-of-one-domain, card-owns, one-in-place, yields-to-card, one-manufacturer}
+use Rattle.rules.specs.Parts.{not-both, owned-by-card}
 use Rattle.rules.proofs.Tests.{tests, is, si, and-i, implies-out, implies-in}
 use Rattle.rules.proofs.Lists.{Some, any-in, any-out}
 use Rattle.rules.proofs.Accepted.{Valid}
@@ -101,3 +102,33 @@ module _ (p : Phone) (c : Certificate) where
           and-i (not (has-valid-operator (p .trust) (p .trust .seen .card))) (eqb (c .owner) (operator-of (p .cards) (p .trust .seen .card)))
           (not-T (has-valid-operator (p .trust) (p .trust .seen .card)) (y .none-there))
           (si (c .owner) (operator-of (p .cards) (p .trust .seen .card)) (y .owner))
+
+-- ---- I5's sentences about the card present, one by one
+
+module _ (s : Seen) (c e : Certificate) where
+  pub not-both-out : T (not-both s c e) → Valid 1 (s .clock) c → Valid 1 (s .clock) e → c .place ≡ 0 → e .place ≡ s .card → s .card ≡ 0
+  unfolding not-both
+  not-both-out h v w q g =
+      is (s .card) 0
+      (implies-out (valid-in 1 (s .clock) c && valid-in 1 (s .clock) e && eqb (c .place) 0 && eqb (e .place) (s .card)) (eqb (s .card) 0) h (search tests))
+
+  pub not-both-in : (Valid 1 (s .clock) c → Valid 1 (s .clock) e → c .place ≡ 0 → e .place ≡ s .card → s .card ≡ 0) → T (not-both s c e)
+  unfolding not-both
+  not-both-in f =
+      implies-in (valid-in 1 (s .clock) c && valid-in 1 (s .clock) e && eqb (c .place) 0 && eqb (e .place) (s .card)) (eqb (s .card) 0)
+      (λ h. si (s .card) 0 (f (search tests) (search tests) (search tests) (search tests)))
+
+module _ (cards : List Card) (s : Seen) (c : Certificate) where
+  abbrev on-phone : Bool
+  on-phone = valid-in 1 (s .clock) c && eqb (c .place) 0 && not (eqb (s .card) 0)
+
+  pub owned-out : T (owned-by-card cards s c) → Valid 1 (s .clock) c → c .place ≡ 0 → s .card ≢ 0 → c .owner ≡ operator-of cards (s .card)
+  unfolding owned-by-card
+  owned-out h v q z =
+      is (c .owner) (operator-of cards (s .card)) (implies-out on-phone (eqb (c .owner) (operator-of cards (s .card))) h (search tests))
+
+  pub owned-in : (Valid 1 (s .clock) c → c .place ≡ 0 → s .card ≢ 0 → c .owner ≡ operator-of cards (s .card)) → T (owned-by-card cards s c)
+  unfolding owned-by-card
+  owned-in f =
+      implies-in on-phone (eqb (c .owner) (operator-of cards (s .card)))
+      (λ h. si (c .owner) (operator-of cards (s .card)) (f (search tests) (search tests) (search tests)))

@@ -43,6 +43,12 @@ isnt a b h e = T-not (eqb a b) h (si a b e)
 pub tnsi : (a b : ℕ) → a ≢ b → T (not (eqb a b))
 tnsi a b h = not-T (eqb a b) (λ t. h (is a b t))
 
+pub same : (a b : Bool) → (T a → T b) → (T b → T a) → a ≡ b
+same true true f g = refl
+same true false f g = absurd (f tt)
+same false true f g = absurd (g tt)
+same false false f g = refl
+
 -- both ways of a test, with the fact
 pub by-test {ℓ} : {C : Type ℓ} (b : Bool) → (T b → C) → (T (not b) → C) → C
 by-test true f g = f tt

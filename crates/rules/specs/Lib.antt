@@ -2,6 +2,9 @@ pub mod Words
 pub mod Chains
 pub mod Explicit
 pub mod ImageRules
+pub mod Parts
+pub mod Faults
+pub mod Named
 pub mod Actors
 pub mod Forms
 pub mod Codes
@@ -10,5 +13,6 @@ pub mod Step
 pub mod Demands
 pub mod Computing
 pub mod WorkedRun
+pub mod Damaged
 pub mod EachCode
 pub mod WhichList

@@ -7,19 +7,28 @@ use Rattle.records.specs.Layout.{event-read}
 use Rattle.records.specs.Phone.{Phone, decode, encode}
 use Rattle.records.specs.declared.Event.{Event}
 use Rattle.rules.specs.declared.Answer.{Answer}
+use Rattle.rules.specs.Faults.{fault, fault-offset}
 use Rattle.rules.specs.Chains.{links}
 use Rattle.rules.specs.Codes.{executable-named, code}
 use Rattle.rules.specs.Effects.{changed}
 
 -- "Every code other than 0 gives domain 0 and links 0"
 abbrev pub refused : ℕ → Answer
-refused c = record { code = c; domain = 0; links = 0 }
+refused c = record { code = c; domain = 0; links = 0; rule = 0; offset = 0 }
+
+-- 02, item 1: "code 1 as before; the answer gains two numbers, 0 for other codes"
+abbrev pub refused-at : List ℕ → Answer
+refused-at l = record { code = 1; domain = 0; links = 0; rule = fault l .rule; offset = fault-offset l }
+
+-- what is told of a code that is not 0
+unfoldable pub refusal : List ℕ → ℕ → Answer
+refusal l c = cond (eqb c 1) (refused-at l) (refused c)
 
 -- "Domain and links are non-zero only for code 0 of verify and request: the executable's domain, and its link count if that domain is not 0": p is the phone after the event
 unfoldable pub done : Event → Phone → Answer
 done e p =
     let x = executable-named p (e .id) in
-    let told : Answer = record { code = 0; domain = x .domain; links = links (p .trust) (x .signing) (x .domain) } in
+    let told : Answer = record { code = 0; domain = x .domain; links = links (p .trust) (x .signing) (x .domain); rule = 0; offset = 0 } in
     cond (eqb (e .kind) 12 || eqb (e .kind) 15) told (refused 0)
 
 -- what an event makes of an image
@@ -34,7 +43,7 @@ step l v =
     let e = event-read v 0 in
     let p = changed e (decode l) in
     let after : Outcome = record { answer = done e p; image = encode p } in
-    cond (eqb c 0) after (record { answer = refused c; image = l })
+    cond (eqb c 0) after (record { answer = refusal l c; image = l })
 
 -- the image after a run of events, and the answers
 unfoldable pub run : List ℕ → List (List ℕ) → List ℕ

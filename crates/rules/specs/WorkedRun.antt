@@ -47,7 +47,7 @@ events =
     ∷ []
 
 abbrev told : ℕ → ℕ → ℕ → Answer
-told c d n = record { code = c; domain = d; links = n }
+told c d n = record { code = c; domain = d; links = n; rule = 0; offset = 0 }
 
 -- the lines of 01, less the event's number and kind
 abbrev pub lines : List Answer

@@ -221,6 +221,9 @@ one-event-expiry κs a r r′ e e′ = returned
 pub one-image-is-framed : One-result Rattle.records.proofs.image.is_framed.Reads.Learnt
 one-image-is-framed κs a r r′ e e′ = returned
 
+pub one-image-header-fault : One-result Rattle.records.proofs.image.header_fault.Reads.Learnt
+one-image-header-fault κs a r r′ e e′ = returned
+
 pub one-image-mode : One-result Rattle.records.proofs.image.mode.Reads.Learnt
 one-image-mode κs a r r′ e e′ = returned
 
@@ -250,6 +253,18 @@ one-image-row κs a r r′ e e′ = returned
 
 pub one-image-table-byte : One-result Rattle.records.proofs.image.table_byte.Reads.Learnt
 one-image-table-byte κs a r r′ e e′ = returned
+
+pub one-image-certificate-offset : One-result Rattle.records.proofs.image.certificate_offset.Reads.Learnt
+one-image-certificate-offset κs a r r′ e e′ = returned
+
+pub one-image-card-offset : One-result Rattle.records.proofs.image.card_offset.Reads.Learnt
+one-image-card-offset κs a r r′ e e′ = returned
+
+pub one-image-executable-offset : One-result Rattle.records.proofs.image.executable_offset.Reads.Learnt
+one-image-executable-offset κs a r r′ e e′ = returned
+
+pub one-image-row-offset : One-result Rattle.records.proofs.image.row_offset.Reads.Learnt
+one-image-row-offset κs a r r′ e e′ = returned
 
 pub one-image-set-clock : One-outcome Rattle.records.proofs.image.set_clock.Reads.Learnt (λ e. e .0 .now ∷ [])
 one-image-set-clock κs a r r′ e e′ = written
@@ -286,29 +301,26 @@ one-image-clear-executable κs a r r′ e e′ = written
 
 -- ==== forms
 
+pub one-forms-apart : One-result Rattle.forms.proofs.apart.Reads.Learnt
+one-forms-apart κs a r r′ e e′ = returned
+
 pub one-forms-certificate-fits : One-result Rattle.forms.proofs.certificate_fits.Reads.Learnt
 one-forms-certificate-fits κs a r r′ e e′ = returned
 
-pub one-forms-i2 : One-result Rattle.forms.proofs.i2.Reads.Learnt
-one-forms-i2 κs a r r′ e e′ = returned
+pub one-forms-slot-fits : One-result Rattle.forms.proofs.slot_fits.Reads.Learnt
+one-forms-slot-fits κs a r r′ e e′ = returned
 
-pub one-forms-cards-fit : One-result Rattle.forms.proofs.cards_fit.Reads.Learnt
-one-forms-cards-fit κs a r r′ e e′ = returned
+pub one-forms-card-fits : One-result Rattle.forms.proofs.card_fits.Reads.Learnt
+one-forms-card-fits κs a r r′ e e′ = returned
 
-pub one-forms-numbers-distinct : One-result Rattle.forms.proofs.numbers_distinct.Reads.Learnt
-one-forms-numbers-distinct κs a r r′ e e′ = returned
+pub one-forms-key-of-one-domain : One-result Rattle.forms.proofs.key_of_one_domain.Reads.Learnt
+one-forms-key-of-one-domain κs a r r′ e e′ = returned
 
-pub one-forms-ids-distinct : One-result Rattle.forms.proofs.ids_distinct.Reads.Learnt
-one-forms-ids-distinct κs a r r′ e e′ = returned
+pub one-forms-row-fits : One-result Rattle.forms.proofs.row_fits.Reads.Learnt
+one-forms-row-fits κs a r r′ e e′ = returned
 
-pub one-forms-keys-apart : One-result Rattle.forms.proofs.keys_apart.Reads.Learnt
-one-forms-keys-apart κs a r r′ e e′ = returned
-
-pub one-forms-i6 : One-result Rattle.forms.proofs.i6.Reads.Learnt
-one-forms-i6 κs a r r′ e e′ = returned
-
-pub one-forms-i7 : One-result Rattle.forms.proofs.i7.Reads.Learnt
-one-forms-i7 κs a r r′ e e′ = returned
+pub one-forms-program-fits : One-result Rattle.forms.proofs.program_fits.Reads.Learnt
+one-forms-program-fits κs a r r′ e e′ = returned
 
 -- ==== chain
 

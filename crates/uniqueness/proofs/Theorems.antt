@@ -30,10 +30,13 @@ one-image-executable-slots κs a r r′ e e′ x y = returned (x .0) (y .0)
 pub one-image-action-count : One-result Rattle.records.proofs.image.action_count.Reads.Learnt
 one-image-action-count κs a r r′ e e′ x y = returned (x .0) (y .0)
 
--- ==== opening: 0 or 1, and what 0 promises
+-- ==== opening: the fault, and what none promises; the answer that tells it
 
 pub one-opening-open : One-result Rattle.opening.proofs.open.Reads.Learnt
 one-opening-open κs a r r′ e e′ x y = returned (x .answer) (y .answer)
+
+pub one-opening-refused-at : One-result Rattle.opening.proofs.refused_at.Reads.Learnt
+one-opening-refused-at κs a r r′ e e′ = returned
 
 -- ==== decisions: a code and a slot, and that a slot that is acted on is one
 

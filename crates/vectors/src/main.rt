@@ -18,7 +18,7 @@ const MOST_CASES: u64 = 1000000;
 // A case has no more events than this.
 const MOST_EVENTS: usize = 65536;
 
-const ANSWER_SIZE: usize = 3;
+const ANSWER_SIZE: usize = 6;
 
 // The ways: a run with room for every answer, runs with room for seven answers each, and a step for each event.
 const WHOLE: u8 = 0;
@@ -27,7 +27,7 @@ const PIECES: u8 = 1;
 
 const STEPS: u8 = 2;
 
-const PIECE_SIZE: usize = 21;
+const PIECE_SIZE: usize = 42;
 
 // No code: an answer that is never told shows.
 const UNTOLD: u8 = 255;
@@ -312,13 +312,35 @@ fn kind_of(events: &[u8], i: usize) -> u8
 
 // Byte j of the i-th answer.
 fn told(answers: &[u8], i: usize, j: usize) -> u8
-    requires { ⌜ (i < 65536) × (j < 3) ⌝ }
+    requires { ⌜ (i < 65536) × (j < 6) ⌝ }
 {
     let at = i * ANSWER_SIZE + j;
     if at < answers.len() {
         return answers[at];
     }
     0
+}
+
+// The number that a step would answer, from the bytes of the i-th answer.
+fn number_told(answers: &[u8], i: usize) -> u64
+    requires { ⌜ i < 65536 ⌝ }
+{
+    let offset = told(answers, i, 4) as u64 * 256 + told(answers, i, 5) as u64;
+    let placed = offset * 256 + told(answers, i, 3) as u64;
+    let coded = placed * 256 + told(answers, i, 0) as u64;
+    (coded * 256 + told(answers, i, 1) as u64) * 256 + told(answers, i, 2) as u64
+}
+
+// The i-th answer of an accepted image names no rule and no byte.
+fn place_differs(name: &[u8], way: u8, answers: &[u8], i: usize) -> u64
+    requires { ⌜ i < 65536 ⌝ }
+    ensures { λ r. ⌜ r ≤ 2 ⌝ }
+{
+    let n = i as u64 + 1;
+    let offset = told(answers, i, 4) as u64 * 256 + told(answers, i, 5) as u64;
+    let a = field_differs(name, way, n, b" rule ", told(answers, i, 3) as u64, 0);
+    let b = field_differs(name, way, n, b" offset ", offset, 0);
+    a + b
 }
 
 // The answers of a run beside its lines, and that there are as many of the one as of the other.
@@ -355,6 +377,39 @@ fn answers_differ(
     tell(name, way, b" event ", n as u64 + 1);
     say(b" is expected, and does not come\n");
     differing + 1
+}
+
+// The answers of a run on an accepted image name no rule and no byte.
+fn places_differ(name: &[u8], way: u8, answers: &[u8], n: usize) -> u64
+    requires { ⌜ n ≤ 65536 ⌝ }
+    ensures { λ r. ⌜ r ≤ 140000 ⌝ }
+{
+    let mut differing: u64 = 0;
+    let mut i = 0;
+    while i < n {
+        differing += place_differs(name, way, answers, i);
+        i += 1;
+    }
+    differing
+}
+
+// Both.
+fn told_differs(
+    name: &[u8],
+    way: u8,
+    events: &[u8],
+    answers: &[u8],
+    n: usize,
+    want: &[u8],
+    from: usize,
+    seen: &mut [u64],
+) -> u64
+    requires { ⌜ (n ≤ 65536) × (from ≤ length (now want)) ⌝ }
+    ensures { λ r. ⌜ r ≤ 540000 ⌝ }
+{
+    let told = answers_differ(name, way, events, answers, n, want, from, seen);
+    let placed = places_differ(name, way, answers, n);
+    told + placed
 }
 
 // ---- the image afterwards
@@ -471,8 +526,8 @@ fn run_in_pieces(image: &mut [u8], events: &[u8], answers: &mut [u8]) -> usize {
 }
 
 // The lowest byte of a number, shifted by so many bits.
-fn byte_of(told: u32, shift: u32) -> u8
-    requires { ⌜ shift < 32 ⌝ }
+fn byte_of(told: u64, shift: u32) -> u8
+    requires { ⌜ shift < 64 ⌝ }
 {
     ((told >> shift) % 256) as u8
 }
@@ -483,16 +538,26 @@ fn set_byte(answers: &mut [u8], at: usize, b: u8) {
     }
 }
 
-// The i-th event as a step of its own, and the three parts of its answer, as bindings/monitor.h takes them apart.
+// The parts of an answer, as bindings/monitor.h takes them apart, in the bytes of a run's answer.
+fn set_answer(answers: &mut [u8], at: usize, told: u64)
+    requires { ⌜ at ≤ 400000 ⌝ }
+{
+    set_byte(answers, at, byte_of(told, 16));
+    set_byte(answers, at + 1, byte_of(told, 8));
+    set_byte(answers, at + 2, byte_of(told, 0));
+    set_byte(answers, at + 3, byte_of(told, 24));
+    set_byte(answers, at + 4, byte_of(told, 40));
+    set_byte(answers, at + 5, byte_of(told, 32));
+}
+
+// The i-th event as a step of its own, and its answer.
 fn run_step(image: &mut [u8], events: &[u8], i: usize, answers: &mut [u8])
     requires { ⌜ i ≤ 65536 ⌝ }
 {
     let at = least(i * Event::SIZE, events.len());
     let end = least(at + Event::SIZE, events.len());
     let told = monitor::monitor_step(image, &events[at..end]);
-    set_byte(answers, i * ANSWER_SIZE, byte_of(told, 16));
-    set_byte(answers, i * ANSWER_SIZE + 1, byte_of(told, 8));
-    set_byte(answers, i * ANSWER_SIZE + 2, byte_of(told, 0));
+    set_answer(answers, i * ANSWER_SIZE, told);
 }
 
 fn run_by_steps(image: &mut [u8], events: &[u8], answers: &mut [u8]) -> usize {
@@ -504,15 +569,152 @@ fn run_by_steps(image: &mut [u8], events: &[u8], answers: &mut [u8]) -> usize {
     i
 }
 
-// ---- a case
+// ---- an image that is refused
 
-// Whether the lines behind the first say that the image is refused, and nothing else.
+// Whether the line behind the first says that the image is refused.
 fn expects_refusal(want: &[u8], from: usize) -> bool
     requires { ⌜ from ≤ length (now want) ⌝ }
 {
-    let at = first_difference(&want[from..], b"image 1\n");
-    at == 8 && want.len() - from == 8
+    first_difference(&want[from..], b"image 1 ") == 8
 }
+
+// 1 where a number that is told of a refused image is not as expected.
+fn part_differs(name: &[u8], way: u8, part: &[u8], got: u64, want: u64) -> u64
+    ensures { λ r. ⌜ r ≤ 1 ⌝ }
+{
+    if got == want {
+        return 0;
+    }
+    tell_case(name, way, part);
+    tell_values(got, want);
+    1
+}
+
+// What is told of a refused image, as bindings/monitor.h takes it apart, beside its line: the last of the output.
+fn refusal_differs(name: &[u8], way: u8, told: u64, want: &[u8], from: usize) -> u64
+    requires { ⌜ from ≤ length (now want) ⌝ }
+    ensures { λ r. ⌜ r ≤ 5 ⌝ }
+{
+    let image = find_number(want, from);
+    let coded = find_number(want, image.end);
+    let ruled = find_number(want, coded.end);
+    let placed = find_number(want, ruled.end);
+    let a = part_differs(
+        name,
+        way,
+        b" image code ",
+        byte_of(told, 16) as u64,
+        coded.value,
+    );
+    let b = part_differs(
+        name,
+        way,
+        b" image rule ",
+        byte_of(told, 24) as u64,
+        ruled.value,
+    );
+    let c = part_differs(name, way, b" image offset ", told >> 32, placed.value);
+    let d = part_differs(name, way, b" image domain and links ", told % 65536, 0);
+    let e = part_differs(
+        name,
+        way,
+        b" output length ",
+        placed.end as u64,
+        want.len() as u64,
+    );
+    a + b + c + d + e
+}
+
+// 1 where an image that is refused is not as it was.
+fn kept_differs(name: &[u8], way: u8, image: &[u8], first: &[u8]) -> u64
+    ensures { λ r. ⌜ r ≤ 1 ⌝ }
+{
+    if first_difference(image, first) == image.len() {
+        return 0;
+    }
+    tell_case(name, way, b" image is refused, and changed\n")
+}
+
+// The first event as a step on an image that is refused.
+fn step_refused(
+    name: &[u8],
+    first: &[u8],
+    image: &mut [u8],
+    events: &[u8],
+    want: &[u8],
+    from: usize,
+) -> u64
+    requires { ⌜ from ≤ length (now want) ⌝ }
+    ensures { λ r. ⌜ r ≤ 6 ⌝ }
+{
+    let end = least(Event::SIZE, events.len());
+    let told = monitor::monitor_step(image, &events[..end]);
+    let a = refusal_differs(name, STEPS, told, want, from);
+    let b = kept_differs(name, STEPS, image, first);
+    a + b
+}
+
+// A run on an image that is refused: its last answer.
+fn run_refused(
+    name: &[u8],
+    first: &[u8],
+    image: &mut [u8],
+    events: &[u8],
+    want: &[u8],
+    from: usize,
+    answers: &mut [u8],
+) -> u64
+    requires { ⌜ from ≤ length (now want) ⌝ }
+    ensures { λ r. ⌜ r ≤ 6 ⌝ }
+{
+    let n = monitor::monitor_run(image, events, answers);
+    let kept = kept_differs(name, WHOLE, image, first);
+    if n == 0 {
+        return kept;
+    }
+    if MOST_EVENTS < n {
+        return tell_case(name, WHOLE, b" has too many events\n");
+    }
+    let told = refusal_differs(name, WHOLE, number_told(answers, n - 1), want, from);
+    told + kept
+}
+
+// An image that is refused and expected to be: by opening it and, every way, by a step and by a run.
+fn refused_differs(
+    name: &[u8],
+    every_way: bool,
+    told: u64,
+    first: &[u8],
+    size: usize,
+    image: &mut [u8],
+    events: &[u8],
+    want: &[u8],
+    from: usize,
+    answers: &mut [u8],
+) -> u64
+    requires { ⌜ (size ≤ length (now first)) × (length (now first) ≡ length (now image)) ⌝ }
+    requires { ⌜ from ≤ length (now want) ⌝ }
+    ensures { λ r. ⌜ r ≤ 17 ⌝ }
+{
+    let opened = refusal_differs(name, WHOLE, told, want, from);
+    if !every_way {
+        return opened;
+    }
+    stream::put_text(image, 0, first);
+    let stepped = step_refused(name, &first[..size], &mut image[..size], events, want, from);
+    let run = run_refused(
+        name,
+        &first[..size],
+        &mut image[..size],
+        events,
+        want,
+        from,
+        answers,
+    );
+    opened + stepped + run
+}
+
+// ---- a case
 
 // The events of a buffer one way, on an image; how many were answered.
 fn run_by(way: u8, image: &mut [u8], events: &[u8], answers: &mut [u8]) -> usize {
@@ -541,7 +743,7 @@ fn way_differs(
 ) -> u64
     requires { ⌜ (size ≤ length (now first)) × (length (now first) ≡ length (now image)) ⌝ }
     requires { ⌜ from ≤ length (now want) ⌝ }
-    ensures { λ r. ⌜ r ≤ 400001 ⌝ }
+    ensures { λ r. ⌜ r ≤ 540001 ⌝ }
 {
     stream::put_text(image, 0, first);
     forget(answers, events.len() / 8 + ANSWER_SIZE);
@@ -549,7 +751,7 @@ fn way_differs(
     if MOST_EVENTS < n {
         return tell_case(name, way, b" has too many events\n");
     }
-    let told = answers_differ(name, way, events, answers, n, want, from, seen);
+    let told = told_differs(name, way, events, answers, n, want, from, seen);
     let kept = image_differs(name, way, &image[..size], fin);
     told + kept
 }
@@ -568,7 +770,7 @@ fn others_differ(
 ) -> u64
     requires { ⌜ (size ≤ length (now first)) × (length (now first) ≡ length (now image)) ⌝ }
     requires { ⌜ from ≤ length (now want) ⌝ }
-    ensures { λ r. ⌜ r ≤ 800002 ⌝ }
+    ensures { λ r. ⌜ r ≤ 1080002 ⌝ }
 {
     let mut uncounted = [0u64; 0];
     let a = way_differs(
@@ -615,7 +817,7 @@ fn accepted_differs(
 ) -> u64
     requires { ⌜ (size ≤ length (now first)) × (length (now first) ≡ length (now image)) ⌝ }
     requires { ⌜ from ≤ length (now want) ⌝ }
-    ensures { λ r. ⌜ r ≤ 1200003 ⌝ }
+    ensures { λ r. ⌜ r ≤ 1620003 ⌝ }
 {
     let a = way_differs(
         name,
@@ -651,15 +853,26 @@ fn differences(
     seen: &mut [u64],
 ) -> u64
     requires { ⌜ (size ≤ length (now first)) × (length (now first) ≡ length (now image)) ⌝ }
-    ensures { λ r. ⌜ r ≤ 1200003 ⌝ }
+    ensures { λ r. ⌜ r ≤ 1620003 ⌝ }
 {
     let from = after(want, find(want, 0, NEWLINE));
     let to_refuse = expects_refusal(want, from);
-    let refused = monitor::monitor_open(&first[..size]) != 0;
-    if refused && to_refuse {
-        return 0;
+    let told = monitor::monitor_open(&first[..size]);
+    if told != 0 && to_refuse {
+        return refused_differs(
+            name,
+            every_way,
+            told,
+            first,
+            size,
+            image,
+            events,
+            want,
+            from,
+            answers,
+        );
     }
-    if refused {
+    if told != 0 {
         return tell_case(
             name,
             WHOLE,
@@ -702,7 +915,7 @@ fn stream_differs(
     seen: &mut [u64],
 ) -> u64
     requires { ⌜ (length (now first) ≡ largest-image) × (length (now image) ≡ largest-image) ⌝ }
-    ensures { λ r. ⌜ r ≤ 1200003 ⌝ }
+    ensures { λ r. ⌜ r ≤ 1620003 ⌝ }
 {
     let i = stream::read_image(given, first);
     let e = read_rest(given, events);
@@ -733,7 +946,7 @@ fn case(
     seen: &mut [u64],
 ) -> u64
     requires { ⌜ (length (now first) ≡ largest-image) × (length (now image) ≡ largest-image) ⌝ }
-    ensures { λ r. ⌜ r ≤ 1200003 ⌝ }
+    ensures { λ r. ⌜ r ≤ 1620003 ⌝ }
 {
     let given = open_part(name, b".in");
     if given < 0 {

@@ -19,7 +19,7 @@ type DamageField = fn(&mut Random, &mut [u8]);
 
 /// Damage is done to the records, to a field of the header or to the bytes as a whole.
 #[derive(Clone, Copy)]
-enum Damage {
+pub enum Damage {
     Parts(DamageParts),
     Field(DamageField),
     Bytes(DamageBytes),
@@ -106,6 +106,12 @@ pub fn count_of_ways() -> usize {
     WAYS.len()
 }
 
+/// The damages that break a rule, one for each way.
+pub fn ways_of(rule: u8) -> Vec<Damage> {
+    let of_rule = WAYS.iter().filter(|(other, _, _)| *other == rule);
+    of_rule.map(|(_, _, damage)| *damage).collect()
+}
+
 /// How often another phone is tried for a damage that did not come out as wanted.
 const TRIES: usize = 200;
 
@@ -172,11 +178,11 @@ fn tidy_executables(phone: &mut Phone) {
 
 // Damage to the bytes.
 
-fn put_u16(image: &mut [u8], at: usize, value: u16) {
+pub fn put_u16(image: &mut [u8], at: usize, value: u16) {
     image[at..at + 2].copy_from_slice(&value.to_be_bytes());
 }
 
-fn put_u32(image: &mut [u8], at: usize, value: u32) {
+pub fn put_u32(image: &mut [u8], at: usize, value: u32) {
     image[at..at + 4].copy_from_slice(&value.to_be_bytes());
 }
 
@@ -185,9 +191,10 @@ fn cut_in_header(random: &mut Random, image: &mut Vec<u8>) {
 }
 
 fn cut_in_parts(random: &mut Random, image: &mut Vec<u8>) {
+    let less_one = image.len().saturating_sub(1);
     let end = match random.percent(40) {
-        true => image.len() - 1,
-        false => random.between(Header::SIZE, image.len() - 1),
+        true => less_one,
+        false => random.between(Header::SIZE, less_one),
     };
     image.truncate(end);
 }
@@ -235,22 +242,26 @@ fn header_zero(random: &mut Random, image: &mut [u8]) {
 
 /// One offset or the total is off; half the time with a real gap that all later ones allow for.
 fn gap(random: &mut Random, image: &mut Vec<u8>, field: usize) {
+    if image.len() < Header::SIZE {
+        return;
+    }
     let here = u32_at(image, field);
     if random.percent(50) {
         let length = random.one_of([1, 4, 8, 12, 24]);
-        let at = here as usize;
+        // The field may be damaged already.
+        let at = (here as usize).min(image.len());
         image.splice(at..at, vec![0; length]);
         for later in (field..=36).step_by(4) {
             let value = u32_at(image, later);
-            put_u32(image, later, value + length as u32);
+            put_u32(image, later, value.wrapping_add(length as u32));
         }
         return;
     }
     let wrong = [
-        here + 1,
-        here - 1,
+        here.wrapping_add(1),
+        here.wrapping_sub(1),
         here ^ 1 << random.below(11),
-        here + 24,
+        here.wrapping_add(24),
         here.saturating_sub(24),
         here ^ 1 << random.below(32),
     ];
@@ -335,7 +346,7 @@ fn issued_disabled(random: &mut Random, phone: &mut Phone) {
     change_one_of(random, phone, is_issued, |c| c.enabled = 0);
 }
 
-fn change_one_of(
+pub fn change_one_of(
     random: &mut Random,
     phone: &mut Phone,
     which: impl Fn(&Certificate) -> bool,
@@ -405,8 +416,10 @@ fn card_zero(random: &mut Random, phone: &mut Phone) {
 
 fn same_card_twice(random: &mut Random, phone: &mut Phone) {
     let count = phone.cards.len();
-    let (from, to) = two_places(random, count);
-    phone.cards[to].number = phone.cards[from].number;
+    if count > 0 {
+        let (from, to) = two_places(random, count);
+        phone.cards[to].number = phone.cards[from].number;
+    }
 }
 
 fn strange_card_present(random: &mut Random, phone: &mut Phone) {
@@ -501,15 +514,20 @@ fn two_manufacturers(random: &mut Random, phone: &mut Phone) {
 fn table_byte_above_two(random: &mut Random, phone: &mut Phone) {
     let row = random.below(phone.table.len());
     let column = random.below(TABLE_ROW_SIZE);
-    phone.table[row][column] = random.one_of([3, 4, 128, 255]);
+    let byte = random.one_of([3, 4, 128, 255]);
+    if let Some(row) = phone.table.get_mut(row) {
+        row[column] = byte;
+    }
 }
 
 /// One action in which the byte of this domain alone is below that of domain 0.
 fn row_below(random: &mut Random, phone: &mut Phone, domain: usize) {
     let row = random.below(phone.table.len());
     let untrusted = random.one_of([1, 2]);
-    phone.table[row] = [untrusted, 2, 2, 2];
-    phone.table[row][domain] = untrusted - 1;
+    if let Some(row) = phone.table.get_mut(row) {
+        *row = [untrusted, 2, 2, 2];
+        row[domain] = untrusted - 1;
+    }
 }
 
 fn executable_id_0(random: &mut Random, phone: &mut Phone) {
@@ -557,6 +575,9 @@ fn same_executable_id(random: &mut Random, phone: &mut Phone) {
 
 fn strange_permission(random: &mut Random, phone: &mut Phone) {
     let first = phone.table.len();
+    if first >= MOST_ACTIONS {
+        return;
+    }
     let bit = match random.percent(50) {
         true => first,
         false => random.between(first, 31),
@@ -607,19 +628,19 @@ fn occupied<T: Copy>(slots: &[Option<T>]) -> Vec<T> {
     slots.iter().copied().flatten().collect()
 }
 
-fn occupied_places<T>(slots: &[Option<T>]) -> Vec<usize> {
+pub fn occupied_places<T>(slots: &[Option<T>]) -> Vec<usize> {
     (0..slots.len()).filter(|&n| slots[n].is_some()).collect()
 }
 
 /// Two different places of a list that has at least two; otherwise the first one twice.
-fn two_places(random: &mut Random, count: usize) -> (usize, usize) {
+pub fn two_places(random: &mut Random, count: usize) -> (usize, usize) {
     let first = random.below(count);
     let step = random.between(1, count.max(2) - 1);
     (first, (first + step) % count.max(1))
 }
 
 /// A card of the table; phones to be damaged have some.
-fn any_card(random: &mut Random, phone: &Phone) -> Card {
+pub fn any_card(random: &mut Random, phone: &Phone) -> Card {
     random.choose(&phone.cards).unwrap_or(Card {
         number: 1,
         zero: 0,

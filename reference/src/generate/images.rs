@@ -57,6 +57,27 @@ impl Shape {
         }
     }
 
+    /// So few slots that many a damage finds nothing to hurt.
+    pub fn few_slots(random: &mut Random) -> Shape {
+        Shape {
+            certificate_slots: random.below(5),
+            cards: random.below(4),
+            executable_slots: random.below(4),
+            actions: random.between(1, 3),
+        }
+    }
+
+    /// Slots and actions near the limits, and often at them.
+    pub fn many_slots(random: &mut Random) -> Shape {
+        let mut near = |most: usize| random.between(3 * most / 4, 5 * most / 4).min(most);
+        Shape {
+            certificate_slots: near(MOST_CERTIFICATES),
+            cards: near(MOST_CARDS),
+            executable_slots: near(MOST_EXECUTABLES),
+            actions: near(MOST_ACTIONS),
+        }
+    }
+
     /// Room enough for every kind of damage.
     pub fn roomy(random: &mut Random) -> Shape {
         Shape {

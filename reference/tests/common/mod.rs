@@ -3,6 +3,7 @@
 
 use reference::bench;
 use reference::phone::Phone;
+use reference::refusal::open;
 use reference::text::to_bytes;
 
 /// The image and the events of 01, "One run of `bench`, whole".
@@ -74,7 +75,15 @@ pub fn phone_after(image: &str, events: &str) -> Phone {
     Phone::decode(&image).expect("a phone")
 }
 
-/// The rule that an image breaks first, 0 for none.
-pub fn broken_rule(image: &str) -> u8 {
-    bench::broken_rule(&stream(image, "")).map_or(0, |broken| broken.rule)
+/// The rule that an image breaks first and where it does, as `bench` prints them; zeros for none.
+pub fn refusal(image: &str) -> (u8, usize) {
+    refusal_of_bytes(&stream(image, ""))
+}
+
+/// The same of a buffer.
+pub fn refusal_of_bytes(buffer: &[u8]) -> (u8, usize) {
+    match open(buffer) {
+        Ok(_) => (0, 0),
+        Err(refusal) => (refusal.broken.rule, refusal.offset),
+    }
 }

@@ -2,7 +2,7 @@ use native.Mathlib.Omega.{arith}
 use mathlib.Core.Path.{sym}
 use lib.Seq.{length-take-le}
 use Rattle.bench.specs.Lines.{image-refused}
-use Rattle.bench.proofs.Texts.{start-within}
+use Rattle.bench.proofs.Texts.{refusal-small, start-within}
 use borrow.Author.Needs.{needs}
 use Rattle.bench.proofs.lesson.Statement.{statement}
 use Rattle.bench.proofs.lesson.Tie as tie
@@ -16,18 +16,28 @@ open-requires c κs = search needs
 slice-aggregate-put-refusal : tie.Need-slice-aggregate-put-refusal
 slice-aggregate-put-refusal c = search needs
 
+refused-at-requires : tie.Need-refused-at-requires
+refused-at-requires c κs = search needs
+
 put-refusal-requires : tie.Need-put-refusal-requires
-unfolding image-refused
-put-refusal-requires c κs = omega (arith, c .before .before .before .before .large-buffer .ensures)
+put-refusal-requires c κs = search needs
+
+-- the state behind the buffer, from that behind the refusal
+abbrev buffered : tie.After-put-refusal → tie.After-large-buffer
+buffered c = c .before .before .before .before .before .before .before .before
 
 array-share-prefix-out : tie.Need-array-share-prefix-out
-unfolding image-refused
-array-share-prefix-out c = start-within _ image-refused (omega (arith, c .before .before .before .before .before .before .large-buffer .ensures)) (c .before .put-refusal .ensures)
+array-share-prefix-out c =
+    let put = c .before in
+    let told = put .before .refused-at .result in
+    start-within _ (image-refused told) (omega (arith, refusal-small told, buffered put .large-buffer .ensures)) (put .put-refusal .ensures)
 
 slice-aggregate-write-all : tie.Need-slice-aggregate-write-all
-unfolding image-refused
 slice-aggregate-write-all c =
-    sym (length-take-le _ _ (start-within _ image-refused (omega (arith, c .before .before .before .before .before .before .before .large-buffer .ensures)) (c .before .before .put-refusal .ensures)))
+    let put = c .before .before in
+    let told = put .before .refused-at .result in
+    let fits = start-within _ (image-refused told) (omega (arith, refusal-small told, buffered put .large-buffer .ensures)) (put .put-refusal .ensures) in
+    sym (length-take-le _ _ fits)
 
 write-all-requires : tie.Need-write-all-requires
 write-all-requires c κs = search needs
@@ -46,7 +56,9 @@ slice-aggregate-all-events-2 c = search needs
 
 all-events-requires : tie.Need-all-events-requires
 all-events-requires c κs =
-    (c .before .before .before .before .«open» .ensures .promise (c .before .before .before .if1 .left), (search needs, omega (arith, c .before .before .before .before .before .before .large-buffer .ensures)))
+    let kept = c .before .before .before in
+    let opened = kept .before .before in
+    (opened .«open» .ensures .promise (kept .if1 .left), (search needs, omega (arith, opened .before .before .large-buffer .ensures)))
 
 same-length-2 : tie.Need-same-length-2
 same-length-2 c = search needs
@@ -61,6 +73,7 @@ lesson-spec =
     large-buffer-requires
     open-requires
     slice-aggregate-put-refusal
+    refused-at-requires
     put-refusal-requires
     array-share-prefix-out
     slice-aggregate-write-all

@@ -6,17 +6,17 @@ use Rattle.events.proofs.step.Tie as tie
 open-requires : tie.Need-open-requires
 open-requires c κs = search needs
 
-refused-requires : tie.Need-refused-requires
-refused-requires c κs = search needs
+refused-at-requires : tie.Need-refused-at-requires
+refused-at-requires c κs = search needs
 
 same-length : tie.Need-same-length
 same-length c = search needs
 
 returns : tie.Need-returns
-returns c = broken-stepped _ _ _ (c .before .before .«open» .ensures .answer) (c .before .if1 .taken) _ (c .refused .ensures)
+returns c = broken-stepped _ _ _ (c .before .before .before .before .«open» .ensures .answer) (c .before .before .if1 .taken) _ (c .refused-at .ensures)
 
 step-on-requires : tie.Need-step-on-requires
-step-on-requires c κs = c .before .before .«open» .ensures .promise (c .before .if1 .left)
+step-on-requires c κs = c .before .before .before .«open» .ensures .promise (c .before .if1 .left)
 
 same-length-2 : tie.Need-same-length-2
 same-length-2 c = search needs
@@ -29,7 +29,7 @@ step-spec =
     tie.close
     (tie.spec
     open-requires
-    refused-requires
+    refused-at-requires
     same-length
     returns
     step-on-requires

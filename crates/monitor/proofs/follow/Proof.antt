@@ -32,7 +32,10 @@ loop-less : tie.Need-loop-less Inv-loop μ-loop
 loop-less c = search needs
 
 loop-again : tie.Need-loop-again Inv-loop μ-loop
-loop-again c = (search needs, c .before .before .before .before .before .before .one .ensures .accepted, left-less _ _ _ _ _ _ _ (c .before .before .before .before .before .before .before .before .before .loop .inv .2) (omega arith) (search needs) _ _ _ (c .before .before .before .before .before .before .one .ensures .stepped) (c .before .before .tell .ensures))
+loop-again c =
+    let one = c .before .before .before .before .before .before .one .ensures in
+    let left = c .before .before .before .before .before .before .before .before .before .loop .inv .2 in
+    (search needs, one .accepted, left-less _ _ _ _ _ _ _ left (omega arith) (search needs) _ _ _ (one .stepped) (c .before .before .tell .ensures))
 
 same-length : tie.Need-same-length Inv-loop μ-loop
 same-length c = c .before .loop .inv .0

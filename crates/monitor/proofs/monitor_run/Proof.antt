@@ -1,6 +1,4 @@
-use lib.ListN.{length}
-use native.Mathlib.Omega.{arith}
-use Rattle.monitor.proofs.Runs.{broken-followed, answered-events, answered-room}
+use Rattle.monitor.proofs.Runs.{broken-followed, opened-accepted, within-events, within-room}
 use borrow.Author.Needs.{needs}
 use Rattle.monitor.proofs.monitor_run.Statement.{statement}
 use Rattle.monitor.proofs.monitor_run.Tie as tie
@@ -10,6 +8,9 @@ answered-requires c κs = search needs
 
 open-requires : tie.Need-open-requires
 open-requires c κs = search needs
+
+refused-at-requires : tie.Need-refused-at-requires
+refused-at-requires c κs = search needs
 
 refuse-requires : tie.Need-refuse-requires
 refuse-requires c κs = search needs
@@ -21,18 +22,10 @@ same-length-2 : tie.Need-same-length-2
 same-length-2 c = search needs
 
 returns : tie.Need-returns
-returns c =
-    record {
-      count = c .before .before .before .before .before .before .before .answered .ensures;
-      followed = broken-followed _ _ (c .before .before .before .before .before .«open» .ensures .answer) (c .before .before .before .before .if1 .taken) _ _ _ _ (c .before .before .refuse .ensures);
-    }
+returns c = search (needs, broken-followed)
 
 follow-requires : tie.Need-follow-requires
-follow-requires c κs =
-    let n = c .before .before .before .before .before .answered .ensures in
-    let events = answered-events (length (c .before .before .before .before .before .before .before .before .before .args .events .now)) (length (c .before .before .before .before .before .before .before .before .before .args .answers .now)) in
-    let room = answered-room (length (c .before .before .before .before .before .before .before .before .before .args .events .now)) (length (c .before .before .before .before .before .before .before .before .before .args .answers .now)) in
-    (c .before .before .before .«open» .ensures .promise (c .before .before .if1 .left), (omega arith, omega arith))
+follow-requires c κs = search (needs, opened-accepted, within-events, within-room)
 
 same-length-3 : tie.Need-same-length-3
 same-length-3 c = search needs
@@ -49,6 +42,7 @@ monitor-run-spec =
     (tie.spec
     answered-requires
     open-requires
+    refused-at-requires
     refuse-requires
     same-length
     same-length-2

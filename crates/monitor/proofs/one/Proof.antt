@@ -27,7 +27,9 @@ same-length : tie.Need-same-length
 same-length c = search needs
 
 returns : tie.Need-returns
-returns c = stepped-same _ _ _ _ _ (last-event (c .before .before .before .before .before .before .before .before .args .events .now) (c .before .before .before .before .before .before .before .before .args .i * 24) (omega arith)) (c .before .before .step-on .ensures)
+returns c =
+    let args = c .before .before .before .before .before .before .before .before .args in
+    stepped-same _ _ _ _ _ (last-event (args .events .now) (args .i * 24) (omega arith)) (c .before .before .step-on .ensures)
 
 add-step-on : tie.Need-add-step-on
 add-step-on c = search needs
@@ -48,7 +50,9 @@ same-length-2 : tie.Need-same-length-2
 same-length-2 c = search needs
 
 returns-2 : tie.Need-returns-2
-returns-2 c = stepped-same _ _ _ _ _ (whole-event (c .before .before .before .before .before .before .before .before .args .events .now) (c .before .before .before .before .before .before .before .before .args .i * 24)) (c .before .before .step-on2 .ensures)
+returns-2 c =
+    let args = c .before .before .before .before .before .before .before .before .args in
+    stepped-same _ _ _ _ _ (whole-event (args .events .now) (args .i * 24)) (c .before .before .step-on2 .ensures)
 
 pub one-spec : {M : Type 1} → statement M
 one-spec =

@@ -25,11 +25,35 @@ add-answers-2 c = search needs
 slice-write-answers-3 : tie.Need-slice-write-answers-3
 slice-write-answers-3 c = simp length-set (omega arith)
 
+add-answers-3 : tie.Need-add-answers-3
+add-answers-3 c = search needs
+
+slice-write-answers-4 : tie.Need-slice-write-answers-4
+slice-write-answers-4 c = simp length-set (omega arith)
+
+cast-answers : tie.Need-cast-answers
+cast-answers c = search needs
+
+add-answers-4 : tie.Need-add-answers-4
+add-answers-4 c = search needs
+
+slice-write-answers-5 : tie.Need-slice-write-answers-5
+slice-write-answers-5 c = simp length-set (omega arith)
+
+cast-answers-2 : tie.Need-cast-answers-2
+cast-answers-2 c = search needs
+
+add-answers-5 : tie.Need-add-answers-5
+add-answers-5 c = search needs
+
+slice-write-answers-6 : tie.Need-slice-write-answers-6
+slice-write-answers-6 c = simp length-set (omega arith)
+
 same-length : tie.Need-same-length
 same-length c = search needs
 
 returns : tie.Need-returns
-returns c = simp towards-suc (sets-put (c .args .answers .now) (c .args .i * 3) _ (omega arith))
+returns c = simp towards-suc (sets-put (c .before .before .args .answers .now) (c .before .before .args .i * 6) _ (omega arith))
 
 pub tell-spec : {M : Type 1} → statement M
 tell-spec =
@@ -41,5 +65,13 @@ tell-spec =
     slice-write-answers-2
     add-answers-2
     slice-write-answers-3
+    add-answers-3
+    slice-write-answers-4
+    cast-answers
+    add-answers-4
+    slice-write-answers-5
+    cast-answers-2
+    add-answers-5
+    slice-write-answers-6
     same-length
     returns)

@@ -19,6 +19,15 @@ slice-aggregate-monitor-open c = sym (length-take-le _ _ (search needs))
 monitor-open-requires : tie.Need-monitor-open-requires
 monitor-open-requires c κs = search needs
 
+refused-differs-requires : tie.Need-refused-differs-requires
+refused-differs-requires c κs = search needs
+
+same-length : tie.Need-same-length
+same-length c = search needs
+
+same-length-2 : tie.Need-same-length-2
+same-length-2 c = search needs
+
 returns : tie.Need-returns
 returns c = search needs
 
@@ -43,14 +52,14 @@ returns-3 c = search needs
 accepted-differs-requires : tie.Need-accepted-differs-requires
 accepted-differs-requires c κs = search needs
 
-same-length : tie.Need-same-length
-same-length c = search needs
-
-same-length-2 : tie.Need-same-length-2
-same-length-2 c = search needs
-
 same-length-3 : tie.Need-same-length-3
 same-length-3 c = search needs
+
+same-length-4 : tie.Need-same-length-4
+same-length-4 c = search needs
+
+same-length-5 : tie.Need-same-length-5
+same-length-5 c = search needs
 
 returns-4 : tie.Need-returns-4
 returns-4 c = search needs
@@ -64,6 +73,9 @@ differences-spec =
     expects-refusal-requires
     slice-aggregate-monitor-open
     monitor-open-requires
+    refused-differs-requires
+    same-length
+    same-length-2
     returns
     slice-aggregate-tell-case
     tell-case-requires
@@ -72,7 +84,7 @@ differences-spec =
     tell-case-requires-2
     returns-3
     accepted-differs-requires
-    same-length
-    same-length-2
     same-length-3
+    same-length-4
+    same-length-5
     returns-4)

@@ -37,8 +37,8 @@ same-length-2 c = search needs
 returns : tie.Need-returns
 returns c = search needs
 
-answers-differ-requires : tie.Need-answers-differ-requires
-answers-differ-requires c κs = search needs
+told-differs-requires : tie.Need-told-differs-requires
+told-differs-requires c κs = search needs
 
 slice-reshare-prefix-image-differs : tie.Need-slice-reshare-prefix-image-differs
 slice-reshare-prefix-image-differs c = search needs
@@ -79,7 +79,7 @@ way-differs-spec =
     same-length
     same-length-2
     returns
-    answers-differ-requires
+    told-differs-requires
     slice-reshare-prefix-image-differs
     slice-aggregate-image-differs
     image-differs-requires

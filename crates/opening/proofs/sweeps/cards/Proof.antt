@@ -1,0 +1,61 @@
+use borrow.Author.Needs.{needs}
+use native.Mathlib.Omega.{arith}
+use Prim.Native.Nat.{_≤_, _-_}
+use lib.ListN.{length, take}
+use mathlib.Core.Bool.{true}
+use mathlib.Core.Path.{_≡_, refl}
+use Rattle.records.specs.Phone.{decode, no-card}
+use Rattle.rules.specs.Parts.{cards-fit}
+use Rattle.rules.proofs.Lowest.{breaks-here, keeps-on, breaks-nowhere}
+use Rattle.rules.proofs.Faults.{cards-grow}
+use Rattle.opening.proofs.sweeps.cards.Statement.{statement}
+use Rattle.opening.proofs.sweeps.cards.Tie as tie
+
+abbrev Inv-loop : tie.InvT-loop
+Inv-loop s cards i₀ i = (i ≤ cards) × (cards ≡ length (decode s .cards)) × (cards-fit (take i (decode s .cards)) ≡ true)
+
+abbrev μ-loop : tie.MeasureT-loop
+μ-loop s cards i₀ i = cards - i
+
+card-count-requires : tie.Need-card-count-requires Inv-loop μ-loop
+card-count-requires c κs = search needs
+
+loop-holds : tie.Need-loop-holds Inv-loop μ-loop
+loop-holds c = (search needs, search needs, cards-grow .none)
+
+card-with-requires : tie.Need-card-with-requires Inv-loop μ-loop
+card-with-requires c κs = search needs
+
+returns : tie.Need-returns Inv-loop μ-loop
+returns c =
+    let v = c .before .before .before .loop in
+    breaks-here cards-grow no-card _ (v .i) (v .inv .2) (omega arith) refl (c .before .card-with .ensures) (c .if1 .taken)
+
+add-i : tie.Need-add-i Inv-loop μ-loop
+add-i c = search needs
+
+loop-less : tie.Need-loop-less Inv-loop μ-loop
+loop-less c = search needs
+
+loop-again : tie.Need-loop-again Inv-loop μ-loop
+loop-again c =
+    let v = c .before .before .before .loop in
+    (search needs, search needs, keeps-on cards-grow no-card _ (v .i) (v .inv .2) (omega arith) refl (c .before .card-with .ensures) (c .if1 .left))
+
+returns-2 : tie.Need-returns-2 Inv-loop μ-loop
+returns-2 c = breaks-nowhere cards-grow no-card _ (c .before .loop .i) (c .before .loop .inv .2) (omega arith) (omega arith)
+
+pub cards-spec : {M : Type 1} → statement M
+cards-spec =
+    tie.close
+    (tie.spec
+    Inv-loop
+    μ-loop
+    card-count-requires
+    loop-holds
+    card-with-requires
+    returns
+    add-i
+    loop-less
+    loop-again
+    returns-2)

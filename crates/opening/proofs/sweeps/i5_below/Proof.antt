@@ -1,0 +1,69 @@
+use borrow.Author.Needs.{needs}
+use native.Mathlib.Omega.{arith}
+use Prim.Native.Nat.{_≤_, _-_}
+use lib.ListN.{take}
+use mathlib.Core.Bool.{true}
+use mathlib.Core.Path.{_≡_}
+use Rattle.records.specs.Phone.{decode, no-certificate, certificate-at}
+use Rattle.rules.specs.Words.{all}
+use Rattle.rules.specs.Parts.{i5-pair}
+use Rattle.rules.proofs.More.{all-grows, below-fails, below-goes-on, below-passes}
+use Rattle.opening.proofs.sweeps.i5_below.Statement.{statement}
+use Rattle.opening.proofs.sweeps.i5_below.Tie as tie
+
+abbrev Inv-loop : tie.InvT-loop
+Inv-loop s i c j₀ j = (j ≤ i) × (all (i5-pair (decode s .trust .seen) (certificate-at (decode s) i)) (take j (decode s .trust .certificates)) ≡ true)
+
+abbrev μ-loop : tie.MeasureT-loop
+μ-loop s i c j₀ j = i - j
+
+certificate-requires : tie.Need-certificate-requires Inv-loop μ-loop
+certificate-requires c κs = search needs
+
+loop-holds : tie.Need-loop-holds Inv-loop μ-loop
+loop-holds c = (search needs, all-grows _ .none)
+
+certificate-requires-2 : tie.Need-certificate-requires-2 Inv-loop μ-loop
+certificate-requires-2 c κs = search needs
+
+i5-pair-requires : tie.Need-i5-pair-requires Inv-loop μ-loop
+i5-pair-requires c κs = search needs
+
+returns : tie.Need-returns Inv-loop μ-loop
+returns c =
+    let v = c .before .before .before .before .loop in
+    below-fails _ no-certificate _ (v .j) {b = c .before .i5-pair .result} (v .inv .0) (v .inv .1)
+    (omega arith) (omega arith) (c .before .before .certificate2 .ensures) (cc) (c .if1 .taken)
+
+add-j : tie.Need-add-j Inv-loop μ-loop
+add-j c = search needs
+
+loop-less : tie.Need-loop-less Inv-loop μ-loop
+loop-less c = search needs
+
+loop-again : tie.Need-loop-again Inv-loop μ-loop
+loop-again c =
+    let v = c .before .before .before .before .loop in (
+      search needs,
+      below-goes-on _ no-certificate _ (v .j) {b = c .before .i5-pair .result} (v .inv .0) (v .inv .1)
+          (omega arith) (omega arith) (c .before .before .certificate2 .ensures) (cc) (c .if1 .left),
+    )
+
+returns-2 : tie.Need-returns-2 Inv-loop μ-loop
+returns-2 c = below-passes _ no-certificate _ (c .before .loop .j) (c .before .loop .inv .0) (c .before .loop .inv .1) (omega arith)
+
+pub i5-below-spec : {M : Type 1} → statement M
+i5-below-spec =
+    tie.close
+    (tie.spec
+    Inv-loop
+    μ-loop
+    certificate-requires
+    loop-holds
+    certificate-requires-2
+    i5-pair-requires
+    returns
+    add-j
+    loop-less
+    loop-again
+    returns-2)

@@ -1,0 +1,66 @@
+use borrow.Author.Needs.{needs}
+use native.Mathlib.Omega.{arith}
+use Prim.Native.Nat.{_≤_, _-_}
+use lib.ListN.{length, take}
+use mathlib.Core.Bool.{true}
+use mathlib.Core.Path.{_≡_, refl}
+use Rattle.records.specs.Phone.{decode, no-executable}
+use Rattle.rules.specs.ImageRules.{i7}
+use Rattle.rules.specs.Faults.{of-executables}
+use Rattle.rules.proofs.Lowest.{breaks-here, keeps-on, breaks-nowhere}
+use Rattle.rules.proofs.Faults.{i7-grows}
+use Rattle.opening.proofs.sweeps.i7.Statement.{statement}
+use Rattle.opening.proofs.sweeps.i7.Tie as tie
+
+abbrev Inv-loop : tie.InvT-loop
+Inv-loop s actions slots i₀ i = (i ≤ slots) × (slots ≡ length (decode s .executables)) × (of-executables i7 (decode s) (take i (decode s .executables)) ≡ true)
+
+abbrev μ-loop : tie.MeasureT-loop
+μ-loop s actions slots i₀ i = slots - i
+
+action-count-requires : tie.Need-action-count-requires Inv-loop μ-loop
+action-count-requires c κs = search needs
+
+executable-slots-requires : tie.Need-executable-slots-requires Inv-loop μ-loop
+executable-slots-requires c κs = search needs
+
+loop-holds : tie.Need-loop-holds Inv-loop μ-loop
+loop-holds c = (search needs, search needs, (i7-grows (decode _)) .none)
+
+program-with-requires : tie.Need-program-with-requires Inv-loop μ-loop
+program-with-requires c κs = search needs
+
+returns : tie.Need-returns Inv-loop μ-loop
+returns c =
+    let v = c .before .before .before .loop in
+    breaks-here (i7-grows (decode _)) no-executable _ (v .i) {b = c .before .program-with .result} (v .inv .2) (omega arith) refl (cc) (c .if1 .taken)
+
+add-i : tie.Need-add-i Inv-loop μ-loop
+add-i c = search needs
+
+loop-less : tie.Need-loop-less Inv-loop μ-loop
+loop-less c = search needs
+
+loop-again : tie.Need-loop-again Inv-loop μ-loop
+loop-again c =
+    let v = c .before .before .before .loop in
+    (search needs, search needs, keeps-on (i7-grows (decode _)) no-executable _ (v .i) {b = c .before .program-with .result} (v .inv .2) (omega arith) refl (cc) (c .if1 .left))
+
+returns-2 : tie.Need-returns-2 Inv-loop μ-loop
+returns-2 c = breaks-nowhere (i7-grows (decode _)) no-executable _ (c .before .loop .i) (c .before .loop .inv .2) (omega arith) (omega arith)
+
+pub i7-spec : {M : Type 1} → statement M
+i7-spec =
+    tie.close
+    (tie.spec
+    Inv-loop
+    μ-loop
+    action-count-requires
+    executable-slots-requires
+    loop-holds
+    program-with-requires
+    returns
+    add-i
+    loop-less
+    loop-again
+    returns-2)

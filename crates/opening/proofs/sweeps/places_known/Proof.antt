@@ -1,0 +1,73 @@
+use borrow.Author.Needs.{needs}
+use native.Mathlib.Omega.{arith}
+use Prim.Native.Nat.{_≤_, _-_}
+use lib.ListN.{length, take}
+use mathlib.Core.Bool.{true}
+use mathlib.Core.Path.{_≡_}
+use Rattle.records.specs.Phone.{decode, no-certificate}
+use Rattle.rules.specs.Words.{all}
+use Rattle.rules.specs.ImageRules.{known-place}
+use Rattle.rules.proofs.Lowest.{breaks-here, keeps-on, breaks-nowhere}
+use Rattle.rules.proofs.More.{all-grows}
+use Rattle.opening.proofs.sweeps.places_known.Statement.{statement}
+use Rattle.opening.proofs.sweeps.places_known.Tie as tie
+
+abbrev Inv-loop : tie.InvT-loop
+Inv-loop s slots i₀ i =
+    (i ≤ slots) × (slots ≡ length (decode s .trust .certificates))
+    × (all (λ c. known-place (decode s .cards) (c .place)) (take i (decode s .trust .certificates)) ≡ true)
+
+abbrev μ-loop : tie.MeasureT-loop
+μ-loop s slots i₀ i = slots - i
+
+certificate-slots-requires : tie.Need-certificate-slots-requires Inv-loop μ-loop
+certificate-slots-requires c κs = search needs
+
+loop-holds : tie.Need-loop-holds Inv-loop μ-loop
+loop-holds c = (search needs, search needs, all-grows _ .none)
+
+certificate-requires : tie.Need-certificate-requires Inv-loop μ-loop
+certificate-requires c κs = search needs
+
+known-place-requires : tie.Need-known-place-requires Inv-loop μ-loop
+known-place-requires c κs = search needs
+
+returns : tie.Need-returns Inv-loop μ-loop
+returns c =
+    let v = c .before .before .before .before .loop in
+    breaks-here (all-grows _) no-certificate _ (v .i) (v .inv .2)
+    (omega arith) (c .before .before .certificate .ensures) (c .before .known-place .ensures) (c .if1 .taken)
+
+add-i : tie.Need-add-i Inv-loop μ-loop
+add-i c = search needs
+
+loop-less : tie.Need-loop-less Inv-loop μ-loop
+loop-less c = search needs
+
+loop-again : tie.Need-loop-again Inv-loop μ-loop
+loop-again c =
+    let v = c .before .before .before .before .loop in (
+      search needs,
+      search needs,
+      keeps-on (all-grows _) no-certificate _ (v .i) (v .inv .2)
+          (omega arith) (c .before .before .certificate .ensures) (c .before .known-place .ensures) (c .if1 .left),
+    )
+
+returns-2 : tie.Need-returns-2 Inv-loop μ-loop
+returns-2 c = breaks-nowhere (all-grows _) no-certificate _ (c .before .loop .i) (c .before .loop .inv .2) (omega arith) (omega arith)
+
+pub places-known-spec : {M : Type 1} → statement M
+places-known-spec =
+    tie.close
+    (tie.spec
+    Inv-loop
+    μ-loop
+    certificate-slots-requires
+    loop-holds
+    certificate-requires
+    known-place-requires
+    returns
+    add-i
+    loop-less
+    loop-again
+    returns-2)

@@ -1,0 +1,333 @@
+// The sweeps of the rules: each tells the lowest record that breaks a rule, alone or with lower ones, or the number of records.
+use records::Certificate;
+use records::image;
+ghost use mathlib.Core.Bool.{_&&_, _||_};
+ghost use mathlib.Core.Path.{_≡_};
+ghost use Prim.Native.Nat.{_≤_, _<_};
+ghost use lib.ListN.{length, take};
+ghost use Rattle.records.specs.Phone.{decode, certificate-at, card-at, executable-at};
+ghost use Rattle.records.specs.Frame.{Framed};
+ghost use Rattle.rules.specs.Words.{all};
+ghost use Rattle.rules.specs.ImageRules.{valid-in, known-place, card-owns, one-in-place, one-manufacturer, row-fits, i4, i5, i7};
+ghost use Rattle.rules.specs.Parts.{apart, slot-fits, cards-fit, card-with, i4-pair, i4-with, not-both, owned-by-card, i5-pair, i5-with, program-with};
+ghost use Rattle.rules.specs.Faults.{lowest, of-certificates, of-executables};
+ghost use Rattle.chain.specs.Keys.{good-slots, chained-in};
+
+// ---- I2 Certificate
+
+pub fn slots_fit(s: &[u8]) -> usize
+    requires { ⌜ Framed (now s) ⌝ }
+    ensures { λ r. ⌜ r ≡ lowest (all slot-fits) (decode (now (s .entry)) .trust .certificates) ⌝ }
+{
+    let slots = image::certificate_slots(s);
+    let mut i: usize = 0;
+    while i < slots {
+        if !forms::slot_fits(image::certificate(s, i)) {
+            return i;
+        }
+        i += 1;
+    }
+    slots
+}
+
+// ---- I3 Card
+
+pub fn places_known(s: &[u8]) -> usize
+    requires { ⌜ Framed (now s) ⌝ }
+    ensures { λ r. ⌜ r ≡ lowest (all (λ c. known-place (decode (now (s .entry)) .cards) (c .place))) (decode (now (s .entry)) .trust .certificates) ⌝ }
+{
+    let slots = image::certificate_slots(s);
+    let mut i: usize = 0;
+    while i < slots {
+        if !lookup::known_place(s, image::certificate(s, i).place) {
+            return i;
+        }
+        i += 1;
+    }
+    slots
+}
+
+// Whether no card below card i has its number.
+fn number_apart(s: &[u8], i: usize) -> bool
+    requires { ⌜ Framed (now s) ⌝ }
+    requires { ⌜ i < length (decode (now s) .cards) ⌝ }
+    ensures { λ r. ⌜ r ≡ all (λ y. apart (card-at (decode (now (s .entry))) i .number) (y .number)) (take i (decode (now (s .entry)) .cards)) ⌝ }
+{
+    let k = image::card(s, i);
+    let mut j: usize = 0;
+    while j < i {
+        if !forms::apart(k.number, image::card(s, j).number) {
+            return false;
+        }
+        j += 1;
+    }
+    true
+}
+
+fn card_with(s: &[u8], i: usize) -> bool
+    requires { ⌜ Framed (now s) ⌝ }
+    requires { ⌜ i < length (decode (now s) .cards) ⌝ }
+    ensures { λ r. ⌜ r ≡ card-with (take i (decode (now (s .entry)) .cards)) (card-at (decode (now (s .entry))) i) ⌝ }
+{
+    forms::card_fits(image::card(s, i)) & number_apart(s, i)
+}
+
+pub fn cards(s: &[u8]) -> usize
+    requires { ⌜ Framed (now s) ⌝ }
+    ensures { λ r. ⌜ r ≡ lowest cards-fit (decode (now (s .entry)) .cards) ⌝ }
+{
+    let cards = image::card_count(s);
+    let mut i: usize = 0;
+    while i < cards {
+        if !card_with(s, i) {
+            return i;
+        }
+        i += 1;
+    }
+    cards
+}
+
+// ---- I4
+
+fn i4_pair(c: Certificate, e: Certificate) -> bool
+    ensures { λ r. ⌜ r ≡ i4-pair c e ⌝ }
+{
+    forms::apart(c.id, e.id) & forms::key_of_one_domain(c, e)
+}
+
+// Whether certificate i differs from each below it as I4 asks.
+fn i4_below(s: &[u8], i: usize) -> bool
+    requires { ⌜ Framed (now s) ⌝ }
+    requires { ⌜ i < length (decode (now s) .trust .certificates) ⌝ }
+    ensures { λ r. ⌜ r ≡ all (i4-pair (certificate-at (decode (now (s .entry))) i)) (take i (decode (now (s .entry)) .trust .certificates)) ⌝ }
+{
+    let c = image::certificate(s, i);
+    let mut j: usize = 0;
+    while j < i {
+        if !i4_pair(c, image::certificate(s, j)) {
+            return false;
+        }
+        j += 1;
+    }
+    true
+}
+
+fn card_owns(s: &[u8], c: Certificate) -> bool
+    requires { ⌜ Framed (now s) ⌝ }
+    ensures { λ r. ⌜ r ≡ card-owns (decode (now (s .entry)) .cards) c ⌝ }
+{
+    if (c.kind == 0) & (c.domain == 1) & (c.place != 0) {
+        return c.owner == lookup::operator_of(s, c.place);
+    }
+    true
+}
+
+fn i4_with(s: &[u8], i: usize) -> bool
+    requires { ⌜ Framed (now s) ⌝ }
+    requires { ⌜ i < length (decode (now s) .trust .certificates) ⌝ }
+    ensures { λ r. ⌜ r ≡ i4-with (decode (now (s .entry)) .cards) (take i (decode (now (s .entry)) .trust .certificates)) (certificate-at (decode (now (s .entry))) i) ⌝ }
+{
+    card_owns(s, image::certificate(s, i)) & i4_below(s, i)
+}
+
+pub fn i4(s: &[u8]) -> usize
+    requires { ⌜ Framed (now s) ⌝ }
+    ensures { λ r. ⌜ r ≡ lowest (of-certificates i4 (decode (now (s .entry)))) (decode (now (s .entry)) .trust .certificates) ⌝ }
+{
+    let slots = image::certificate_slots(s);
+    let mut i: usize = 0;
+    while i < slots {
+        if !i4_with(s, i) {
+            return i;
+        }
+        i += 1;
+    }
+    slots
+}
+
+// ---- I5
+
+fn one_in_place(clock: u32, c: Certificate, e: Certificate) -> bool
+    ensures { λ r. ⌜ r ≡ one-in-place clock c e ⌝ }
+{
+    !(lookup::valid_in(1, clock, c) & lookup::valid_in(1, clock, e) & (c.place == e.place))
+        | (c.id == e.id)
+}
+
+// Not c on the phone while e is on the present card.
+fn not_both(s: &[u8], c: Certificate, e: Certificate) -> bool
+    requires { ⌜ Framed (now s) ⌝ }
+    ensures { λ r. ⌜ r ≡ not-both (decode (now (s .entry)) .trust .seen) c e ⌝ }
+{
+    let clock = image::clock(s);
+    let card = image::card_present(s);
+    !(lookup::valid_in(1, clock, c)
+        & lookup::valid_in(1, clock, e)
+        & (c.place == 0)
+        & (e.place == card))
+        | (card == 0)
+}
+
+fn neither_way(s: &[u8], c: Certificate, e: Certificate) -> bool
+    requires { ⌜ Framed (now s) ⌝ }
+    ensures { λ r. ⌜ r ≡ (not-both (decode (now (s .entry)) .trust .seen) c e && not-both (decode (now (s .entry)) .trust .seen) e c) ⌝ }
+{
+    not_both(s, c, e) & not_both(s, e, c)
+}
+
+fn one_manufacturer(clock: u32, c: Certificate, e: Certificate) -> bool
+    ensures { λ r. ⌜ r ≡ one-manufacturer clock c e ⌝ }
+{
+    !(lookup::valid_in(2, clock, c) & lookup::valid_in(2, clock, e)) | (c.id == e.id)
+}
+
+fn i5_pair(s: &[u8], c: Certificate, e: Certificate) -> bool
+    requires { ⌜ Framed (now s) ⌝ }
+    ensures { λ r. ⌜ r ≡ i5-pair (decode (now (s .entry)) .trust .seen) c e ⌝ }
+{
+    let clock = image::clock(s);
+    one_in_place(clock, c, e) & neither_way(s, c, e) & one_manufacturer(clock, c, e)
+}
+
+// Whether certificate i goes with each below it as I5 asks.
+fn i5_below(s: &[u8], i: usize) -> bool
+    requires { ⌜ Framed (now s) ⌝ }
+    requires { ⌜ i < length (decode (now s) .trust .certificates) ⌝ }
+    ensures { λ r. ⌜ r ≡ all (i5-pair (decode (now (s .entry)) .trust .seen) (certificate-at (decode (now (s .entry))) i)) (take i (decode (now (s .entry)) .trust .certificates)) ⌝ }
+{
+    let c = image::certificate(s, i);
+    let mut j: usize = 0;
+    while j < i {
+        if !i5_pair(s, c, image::certificate(s, j)) {
+            return false;
+        }
+        j += 1;
+    }
+    true
+}
+
+fn owned_by_card(s: &[u8], c: Certificate) -> bool
+    requires { ⌜ Framed (now s) ⌝ }
+    ensures { λ r. ⌜ r ≡ owned-by-card (decode (now (s .entry)) .cards) (decode (now (s .entry)) .trust .seen) c ⌝ }
+{
+    let card = image::card_present(s);
+    if lookup::valid_in(1, image::clock(s), c) & (c.place == 0) & (card != 0) {
+        return c.owner == lookup::operator_of(s, card);
+    }
+    true
+}
+
+// Of other records I5 asks nothing.
+fn is_asked(s: &[u8], c: Certificate) -> bool
+    requires { ⌜ Framed (now s) ⌝ }
+    ensures { λ r. ⌜ r ≡ (valid-in 1 (decode (now (s .entry)) .trust .seen .clock) c || valid-in 2 (decode (now (s .entry)) .trust .seen .clock) c) ⌝ }
+{
+    let clock = image::clock(s);
+    lookup::valid_in(1, clock, c) | lookup::valid_in(2, clock, c)
+}
+
+fn i5_with(s: &[u8], i: usize) -> bool
+    requires { ⌜ Framed (now s) ⌝ }
+    requires { ⌜ i < length (decode (now s) .trust .certificates) ⌝ }
+    ensures { λ r. ⌜ r ≡ i5-with (decode (now (s .entry)) .cards) (decode (now (s .entry)) .trust .seen) (take i (decode (now (s .entry)) .trust .certificates)) (certificate-at (decode (now (s .entry))) i) ⌝ }
+{
+    let c = image::certificate(s, i);
+    if !is_asked(s, c) {
+        return true;
+    }
+    owned_by_card(s, c) & i5_below(s, i)
+}
+
+pub fn i5(s: &[u8]) -> usize
+    requires { ⌜ Framed (now s) ⌝ }
+    ensures { λ r. ⌜ r ≡ lowest (of-certificates i5 (decode (now (s .entry)))) (decode (now (s .entry)) .trust .certificates) ⌝ }
+{
+    let slots = image::certificate_slots(s);
+    let mut i: usize = 0;
+    while i < slots {
+        if !i5_with(s, i) {
+            return i;
+        }
+        i += 1;
+    }
+    slots
+}
+
+// ---- I6 Table
+
+pub fn rows_fit(s: &[u8]) -> usize
+    requires { ⌜ Framed (now s) ⌝ }
+    ensures { λ r. ⌜ r ≡ lowest (all row-fits) (decode (now (s .entry)) .table) ⌝ }
+{
+    let actions = image::action_count(s);
+    let mut i: usize = 0;
+    while i < actions {
+        if !forms::row_fits(image::row(s, i)) {
+            return i;
+        }
+        i += 1;
+    }
+    actions
+}
+
+// ---- I7 Executable
+
+// Whether no executable below executable i has its id.
+fn program_apart(s: &[u8], i: usize) -> bool
+    requires { ⌜ Framed (now s) ⌝ }
+    requires { ⌜ i < length (decode (now s) .executables) ⌝ }
+    ensures { λ r. ⌜ r ≡ all (λ y. apart (executable-at (decode (now (s .entry))) i .id) (y .id)) (take i (decode (now (s .entry)) .executables)) ⌝ }
+{
+    let x = image::executable(s, i);
+    let mut j: usize = 0;
+    while j < i {
+        if !forms::apart(x.id, image::executable(s, j).id) {
+            return false;
+        }
+        j += 1;
+    }
+    true
+}
+
+fn program_with(s: &[u8], actions: usize, i: usize) -> bool
+    requires { ⌜ Framed (now s) ⌝ }
+    requires { ⌜ (i < length (decode (now s) .executables)) × (actions ≤ 32) ⌝ }
+    ensures { λ r. ⌜ r ≡ program-with actions (take i (decode (now (s .entry)) .executables)) (executable-at (decode (now (s .entry))) i) ⌝ }
+{
+    forms::program_fits(actions, image::executable(s, i)) & program_apart(s, i)
+}
+
+pub fn i7(s: &[u8]) -> usize
+    requires { ⌜ Framed (now s) ⌝ }
+    ensures { λ r. ⌜ r ≡ lowest (of-executables i7 (decode (now (s .entry)))) (decode (now (s .entry)) .executables) ⌝ }
+{
+    let actions = image::action_count(s);
+    let slots = image::executable_slots(s);
+    let mut i: usize = 0;
+    while i < slots {
+        if !program_with(s, actions, i) {
+            return i;
+        }
+        i += 1;
+    }
+    slots
+}
+
+// ---- I8
+
+// Those of one domain, by the slots that are good there.
+pub fn chained(s: &[u8], domain: u8, good: u64) -> usize
+    requires { ⌜ Framed (now s) ⌝ }
+    requires { ⌜ good ≡ good-slots (decode (now s) .trust) domain ⌝ }
+    ensures { λ r. ⌜ r ≡ lowest (all (chained-in domain (decode (now (s .entry)) .trust))) (decode (now (s .entry)) .executables) ⌝ }
+{
+    let slots = image::executable_slots(s);
+    let mut i: usize = 0;
+    while i < slots {
+        if !chain::is_chained(s, domain, good, image::executable(s, i)) {
+            return i;
+        }
+        i += 1;
+    }
+    slots
+}
