@@ -19,16 +19,13 @@ use Rattle.bits.proofs.Laws.{or-set}
 use Rattle.bits.proofs.Words.{any-nothing, word-lt, word-none, word-same, word-or, Built, built-none, built-skips, built-takes, built-all}
 use Rattle.rules.specs.Words.{any, least}
 use Rattle.rules.specs.Chains.{trusted-root, link, serves, good, most-links, within, links}
-use Rattle.rules.proofs.Tests.{tests, or-cases, is, si, isnt, same}
+use Rattle.rules.proofs.Tests.{tests, or-cases, is, si, isnt, same, eqb-turn}
 use Rattle.rules.proofs.Lists.{any-out, any-in}
 use Rattle.rules.proofs.Least.{least-small}
 use Rattle.rules.proofs.Loops.{any-rest, any-end}
 use Rattle.chain.specs.declared.Level.{Level}
 use Rattle.chain.specs.Keys.{slot, rooted, linked, reach, verifiers, Level-of}
 use Rattle.chain.proofs.Words.{any-none, any-same, any-or, word-any, Going, goes-to, some-here}
-
-eqb-turn : (a b : ℕ) → eqb a b ≡ eqb b a
-eqb-turn a b = same (eqb a b) (eqb b a) (λ h. si b a (sym (is a b h))) (λ h. si a b (sym (is b a h)))
 
 none : (b : Bool) → (b && false) ≡ false
 none true = refl

@@ -6,8 +6,8 @@ use mathlib.Core.Logic.{_≢_}
 use mathlib.Core.Path.{_≡_, refl, sym, ap, ap₂, _∙_}
 use native.Mathlib.Nat.{min-eq-left, min-eq-right}
 use native.Mathlib.Omega.{arith}
-use borrow.Author.Tests.{not-true, not-false, lt-ltb, le-ltb}
-use lib.Dec.{T, ltb}
+use borrow.Author.Tests.{ne-eqb, not-true, not-false, lt-ltb, le-ltb}
+use lib.Dec.{T, eqb, ltb}
 use lib.ListN.{length}
 use Rattle.records.specs.Phone.{Seen, Phone, no-certificate, no-card, no-executable, no-row}
 use Rattle.records.specs.declared.Certificate.{Certificate}
@@ -16,8 +16,11 @@ use Rattle.rules.specs.Words.{_implies_, all}
 use Rattle.rules.specs.declared.Site.{Site}
 use Rattle.rules.specs.declared.Fault.{Fault}
 use Rattle.rules.specs.ImageRules.{valid-in, known-place, row-fits, i2, i3, i4, i5, i6, i7, i8}
-use Rattle.rules.specs.Parts.{slot-fits, cards-fit, present-known, places-known, i5-with}
+use Rattle.rules.specs.Parts.{apart, slot-fits, cards-fit, present-known, places-known, i5-with}
 use Rattle.rules.specs.Faults.{lowest, of-certificates, of-executables, certificate-site, executable-site, i3-site, at-rule, no-fault}
+use Rattle.rules.proofs.Tests.{si, or-i, eqb-turn}
+use Rattle.rules.proofs.Lists.{all-in}
+use Rattle.rules.proofs.Accepts.{T-true}
 use Rattle.rules.proofs.More.{all-grows}
 use Rattle.rules.proofs.Faults.{placed, answer-keeps, i5-spares, places-grow, cards-grow, i4-grows, i5-grows, i7-grows, i8-grows}
 use Rattle.chain.specs.Keys.{chained-in}
@@ -32,6 +35,14 @@ implied a b h e = rw h e
 pub spared : (a b : Bool) → a ≡ false → true ≡ (a implies b)
 unfolding _implies_
 spared a b h = rw h
+
+-- ---- numbers apart: 0 is apart from all, and another from those that it is not
+
+pub zero-apart : {A : Type 0} (f : A → ℕ) (n : ℕ) (l : List A) → n ≡ 0 → true ≡ all (λ y. apart n (f y)) l
+zero-apart f n l z = sym (T-true _ (all-in (λ y. apart n (f y)) l (λ y m. or-i (eqb n 0) (not (eqb n (f y))) (si n 0 z))))
+
+pub not-same : (n m : ℕ) {b : Bool} → n ≢ 0 → b ≡ eqb m n → not b ≡ apart n m
+not-same n m z e = rw (ne-eqb n 0 z) (ap not (e ∙ eqb-turn m n))
 
 -- I5 asks nothing of e, which was read as c
 pub i5-spared : (cards : List Card) (s : Seen) (l : List Certificate) {c e : Certificate} {x : Bool} → c ≡ e

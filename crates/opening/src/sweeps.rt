@@ -8,8 +8,8 @@ ghost use lib.ListN.{length, take};
 ghost use Rattle.records.specs.Phone.{decode, certificate-at, card-at, executable-at};
 ghost use Rattle.records.specs.Frame.{Framed};
 ghost use Rattle.rules.specs.Words.{all};
-ghost use Rattle.rules.specs.ImageRules.{valid-in, known-place, card-owns, one-in-place, one-manufacturer, row-fits, i4, i5, i7};
-ghost use Rattle.rules.specs.Parts.{apart, slot-fits, cards-fit, card-with, i4-pair, i4-with, not-both, owned-by-card, i5-pair, i5-with, program-with};
+ghost use Rattle.rules.specs.ImageRules.{valid-in, known-place, key-of-one-domain, card-owns, one-in-place, one-manufacturer, row-fits, i4, i5, i7};
+ghost use Rattle.rules.specs.Parts.{apart, slot-fits, cards-fit, card-with, i4-with, not-both, owned-by-card, i5-pair, i5-with, program-with};
 ghost use Rattle.rules.specs.Faults.{lowest, of-certificates, of-executables};
 ghost use Rattle.chain.specs.Keys.{good-slots, chained-in};
 
@@ -89,22 +89,36 @@ pub fn cards(s: &[u8]) -> usize
 
 // ---- I4
 
-fn i4_pair(c: Certificate, e: Certificate) -> bool
-    ensures { λ r. ⌜ r ≡ i4-pair c e ⌝ }
-{
-    forms::apart(c.id, e.id) & forms::key_of_one_domain(c, e)
-}
-
-// Whether certificate i differs from each below it as I4 asks.
-fn i4_below(s: &[u8], i: usize) -> bool
+// Whether no certificate below certificate i has its id.
+fn id_apart(s: &[u8], i: usize) -> bool
     requires { ⌜ Framed (now s) ⌝ }
     requires { ⌜ i < length (decode (now s) .trust .certificates) ⌝ }
-    ensures { λ r. ⌜ r ≡ all (i4-pair (certificate-at (decode (now (s .entry))) i)) (take i (decode (now (s .entry)) .trust .certificates)) ⌝ }
+    ensures { λ r. ⌜ r ≡ all (λ y. apart (certificate-at (decode (now (s .entry))) i .id) (y .id)) (take i (decode (now (s .entry)) .trust .certificates)) ⌝ }
+{
+    let id = image::certificate(s, i).id;
+    if id == 0 {
+        return true;
+    }
+    let mut j: usize = 0;
+    while j < i {
+        if image::certificate_has_id(s, j, id) {
+            return false;
+        }
+        j += 1;
+    }
+    true
+}
+
+// Whether no certificate below certificate i, and of another domain, has its key.
+fn key_apart(s: &[u8], i: usize) -> bool
+    requires { ⌜ Framed (now s) ⌝ }
+    requires { ⌜ i < length (decode (now s) .trust .certificates) ⌝ }
+    ensures { λ r. ⌜ r ≡ all (key-of-one-domain (certificate-at (decode (now (s .entry))) i)) (take i (decode (now (s .entry)) .trust .certificates)) ⌝ }
 {
     let c = image::certificate(s, i);
     let mut j: usize = 0;
     while j < i {
-        if !i4_pair(c, image::certificate(s, j)) {
+        if !forms::key_of_one_domain(c, image::certificate(s, j)) {
             return false;
         }
         j += 1;
@@ -127,7 +141,7 @@ fn i4_with(s: &[u8], i: usize) -> bool
     requires { ⌜ i < length (decode (now s) .trust .certificates) ⌝ }
     ensures { λ r. ⌜ r ≡ i4-with (decode (now (s .entry)) .cards) (take i (decode (now (s .entry)) .trust .certificates)) (certificate-at (decode (now (s .entry))) i) ⌝ }
 {
-    card_owns(s, image::certificate(s, i)) & i4_below(s, i)
+    card_owns(s, image::certificate(s, i)) & id_apart(s, i) & key_apart(s, i)
 }
 
 pub fn i4(s: &[u8]) -> usize
@@ -278,10 +292,13 @@ fn program_apart(s: &[u8], i: usize) -> bool
     requires { ⌜ i < length (decode (now s) .executables) ⌝ }
     ensures { λ r. ⌜ r ≡ all (λ y. apart (executable-at (decode (now (s .entry))) i .id) (y .id)) (take i (decode (now (s .entry)) .executables)) ⌝ }
 {
-    let x = image::executable(s, i);
+    let id = image::executable(s, i).id;
+    if id == 0 {
+        return true;
+    }
     let mut j: usize = 0;
     while j < i {
-        if !forms::apart(x.id, image::executable(s, j).id) {
+        if image::executable_has_id(s, j, id) {
             return false;
         }
         j += 1;

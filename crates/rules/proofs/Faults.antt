@@ -1,6 +1,6 @@
 -- How each rule grows by a record, and what is known of the fault that is told. Assumes nothing.
 use Prim.Native.Nat.{ℕ}
-use mathlib.Core.Bool.{Bool, true, false, cond, not, _&&_, _||_, true≢false, and-comm}
+use mathlib.Core.Bool.{Bool, true, false, cond, not, _&&_, _||_, true≢false, and-comm, and-true}
 use mathlib.Core.List.{List}
 use mathlib.Core.Logic.{_≢_}
 use mathlib.Core.Path.{_≡_, refl, sym, ap, _∙_}
@@ -118,11 +118,14 @@ module _ (p : Phone) where
   unfolding i4
   i4-grows = grows-as as-asked (both-grow (both-grow (distinct-grows (λ c. c .id)) keys-grow) (all-grows (card-owns (p .cards))))
     where
+      turn : (a b o : Bool) → ((a && b) && o) ≡ ((o && a) && b)
+      turn true b o = and-comm b o ∙ ap (λ x. x && b) (sym (and-true o))
+      turn false b true = refl
+      turn false b false = refl
+
       as-asked : (l : List Certificate) (c : Certificate)
           → ((all (λ y. apart (c .id) (y .id)) l && all (key-of-one-domain c) l) && card-owns (p .cards) c) ≡ i4-with (p .cards) l c
-      as-asked l c =
-          and-comm (all (λ y. apart (c .id) (y .id)) l && all (key-of-one-domain c) l) (card-owns (p .cards) c)
-          ∙ ap (λ b. card-owns (p .cards) c && b) (sym (all-and (λ y. apart (c .id) (y .id)) (key-of-one-domain c) l))
+      as-asked l c = turn (all (λ y. apart (c .id) (y .id)) l) (all (key-of-one-domain c) l) (card-owns (p .cards) c)
 
   pub i5-grows : Grows (of-certificates i5 p) (i5-with (p .cards) (p .trust .seen))
   i5-grows =

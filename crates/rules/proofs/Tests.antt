@@ -2,7 +2,7 @@
 use Prim.Native.Nat.{ℕ, zero, suc}
 use mathlib.Core.Bool.{Bool, true, false, cond, not, _&&_, _||_}
 use mathlib.Core.Logic.{_≢_, _⊎_, inl, inr}
-use mathlib.Core.Path.{_≡_, refl, subst}
+use mathlib.Core.Path.{_≡_, refl, sym, subst}
 use lib.Dec.{T, T-not, not-T, eqb, eqb→eq, eqb-refl}
 use mathlib.Core.List.{List, [], _∷_}
 use Rattle.rules.specs.Words.{_implies_, Check, _⇒_, first}
@@ -48,6 +48,9 @@ same true true f g = refl
 same true false f g = absurd (f tt)
 same false true f g = absurd (g tt)
 same false false f g = refl
+
+pub eqb-turn : (a b : ℕ) → eqb a b ≡ eqb b a
+eqb-turn a b = same (eqb a b) (eqb b a) (λ h. si b a (sym (is a b h))) (λ h. si a b (sym (is b a h)))
 
 -- both ways of a test, with the fact
 pub by-test {ℓ} : {C : Type ℓ} (b : Bool) → (T b → C) → (T (not b) → C) → C

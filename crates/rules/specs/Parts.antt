@@ -44,13 +44,9 @@ places-known cards l = all (λ c. known-place cards (c .place)) l
 
 -- ---- I4
 
--- of two certificates: other ids, and no key of two domains
-abbrev pub i4-pair : Certificate → Certificate → Bool
-i4-pair c e = apart (c .id) (e .id) && key-of-one-domain c e
-
 -- of a certificate c, beside those below it
 abbrev pub i4-with : List Card → List Certificate → Certificate → Bool
-i4-with cards l c = card-owns cards c && all (i4-pair c) l
+i4-with cards l c = card-owns cards c && all (λ y. apart (c .id) (y .id)) l && all (key-of-one-domain c) l
 
 -- ---- I5
 

@@ -8,12 +8,16 @@ certificate-requires c κs = search needs
 card-owns-requires : tie.Need-card-owns-requires
 card-owns-requires c κs = search needs
 
-i4-below-requires : tie.Need-i4-below-requires
-i4-below-requires c κs = search needs
+id-apart-requires : tie.Need-id-apart-requires
+id-apart-requires c κs = search needs
+
+key-apart-requires : tie.Need-key-apart-requires
+key-apart-requires c κs = search needs
 
 returns : tie.Need-returns
 returns c = cc
 
 pub i4-with-spec : {M : Type 1} → statement M
 i4-with-spec =
-    tie.close (tie.spec certificate-requires card-owns-requires i4-below-requires returns)
+    tie.close
+    (tie.spec certificate-requires card-owns-requires id-apart-requires key-apart-requires returns)

@@ -6,13 +6,13 @@ use mathlib.Core.Bool.{true}
 use mathlib.Core.Path.{_≡_}
 use Rattle.records.specs.Phone.{decode, no-certificate, certificate-at}
 use Rattle.rules.specs.Words.{all}
-use Rattle.rules.specs.Parts.{i4-pair}
+use Rattle.rules.specs.ImageRules.{key-of-one-domain}
 use Rattle.rules.proofs.More.{all-grows, below-fails, below-goes-on, below-passes}
-use Rattle.opening.proofs.sweeps.i4_below.Statement.{statement}
-use Rattle.opening.proofs.sweeps.i4_below.Tie as tie
+use Rattle.opening.proofs.sweeps.key_apart.Statement.{statement}
+use Rattle.opening.proofs.sweeps.key_apart.Tie as tie
 
 abbrev Inv-loop : tie.InvT-loop
-Inv-loop s i c j₀ j = (j ≤ i) × (all (i4-pair (certificate-at (decode s) i)) (take j (decode s .trust .certificates)) ≡ true)
+Inv-loop s i c j₀ j = (j ≤ i) × (all (key-of-one-domain (certificate-at (decode s) i)) (take j (decode s .trust .certificates)) ≡ true)
 
 abbrev μ-loop : tie.MeasureT-loop
 μ-loop s i c j₀ j = i - j
@@ -26,13 +26,13 @@ loop-holds c = (search needs, all-grows _ .none)
 certificate-requires-2 : tie.Need-certificate-requires-2 Inv-loop μ-loop
 certificate-requires-2 c κs = search needs
 
-i4-pair-requires : tie.Need-i4-pair-requires Inv-loop μ-loop
-i4-pair-requires c κs = search needs
+key-of-one-domain-requires : tie.Need-key-of-one-domain-requires Inv-loop μ-loop
+key-of-one-domain-requires c κs = search needs
 
 returns : tie.Need-returns Inv-loop μ-loop
 returns c =
     let v = c .before .before .before .before .loop in
-    below-fails _ no-certificate _ (v .j) {b = c .before .i4-pair .result} (v .inv .0) (v .inv .1)
+    below-fails _ no-certificate _ (v .j) {b = c .before .key-of-one-domain .result} (v .inv .0) (v .inv .1)
     (omega arith) (omega arith) (c .before .before .certificate2 .ensures) (cc) (c .if1 .taken)
 
 add-j : tie.Need-add-j Inv-loop μ-loop
@@ -45,15 +45,15 @@ loop-again : tie.Need-loop-again Inv-loop μ-loop
 loop-again c =
     let v = c .before .before .before .before .loop in (
       search needs,
-      below-goes-on _ no-certificate _ (v .j) {b = c .before .i4-pair .result} (v .inv .0) (v .inv .1)
+      below-goes-on _ no-certificate _ (v .j) {b = c .before .key-of-one-domain .result} (v .inv .0) (v .inv .1)
           (omega arith) (omega arith) (c .before .before .certificate2 .ensures) (cc) (c .if1 .left),
     )
 
 returns-2 : tie.Need-returns-2 Inv-loop μ-loop
 returns-2 c = below-passes _ no-certificate _ (c .before .loop .j) (c .before .loop .inv .0) (c .before .loop .inv .1) (omega arith)
 
-pub i4-below-spec : {M : Type 1} → statement M
-i4-below-spec =
+pub key-apart-spec : {M : Type 1} → statement M
+key-apart-spec =
     tie.close
     (tie.spec
     Inv-loop
@@ -61,7 +61,7 @@ i4-below-spec =
     certificate-requires
     loop-holds
     certificate-requires-2
-    i4-pair-requires
+    key-of-one-domain-requires
     returns
     add-j
     loop-less

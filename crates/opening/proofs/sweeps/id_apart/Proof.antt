@@ -1,0 +1,77 @@
+use borrow.Author.Needs.{needs}
+use native.Mathlib.Omega.{arith}
+use Prim.Native.Nat.{_≤_, _-_}
+use lib.Dec.{eqb}
+use lib.ListN.{take}
+use mathlib.Core.Bool.{true, not}
+use mathlib.Core.Logic.{_≢_}
+use mathlib.Core.Path.{_≡_, refl, sym, ap, _∙_}
+use Rattle.records.specs.Phone.{decode, no-certificate, certificate-at}
+use Rattle.rules.specs.Words.{all}
+use Rattle.rules.specs.Parts.{apart}
+use Rattle.rules.proofs.More.{all-grows, below-fails, below-goes-on, below-passes}
+use Rattle.opening.proofs.Parts.{zero-apart, not-same}
+use Rattle.opening.proofs.sweeps.id_apart.Statement.{statement}
+use Rattle.opening.proofs.sweeps.id_apart.Tie as tie
+
+abbrev Inv-loop : tie.InvT-loop
+Inv-loop s i id j₀ j =
+    (j ≤ i) × (id ≡ certificate-at (decode s) i .id) × (id ≢ 0) × (all (λ y. apart (certificate-at (decode s) i .id) (y .id)) (take j (decode s .trust .certificates)) ≡ true)
+
+abbrev μ-loop : tie.MeasureT-loop
+μ-loop s i id j₀ j = i - j
+
+certificate-requires : tie.Need-certificate-requires Inv-loop μ-loop
+certificate-requires c κs = search needs
+
+returns : tie.Need-returns Inv-loop μ-loop
+returns c = zero-apart (λ y. y .id) _ _ (sym (ap (λ y. y .id) (c .before .certificate .ensures)) ∙ c .if1 .taken)
+
+loop-holds : tie.Need-loop-holds Inv-loop μ-loop
+loop-holds c = (search needs, ap (λ y. y .id) (c .before .certificate .ensures), c .if1 .left, all-grows _ .none)
+
+certificate-has-id-requires : tie.Need-certificate-has-id-requires Inv-loop μ-loop
+certificate-has-id-requires c κs = search needs
+
+returns-2 : tie.Need-returns-2 Inv-loop μ-loop
+returns-2 c =
+    let v = c .before .before .before .loop in
+    let has = c .before .certificate-has-id in
+    below-fails _ no-certificate _ (v .j) {b = not (has .result)} (v .inv .0) (v .inv .3) (omega arith) (omega arith) refl
+    (not-same _ _ (λ z. v .inv .2 (v .inv .1 ∙ z)) (has .ensures ∙ ap (eqb _) (v .inv .1))) (ap (λ b. not (not b)) (c .if2 .taken))
+
+add-j : tie.Need-add-j Inv-loop μ-loop
+add-j c = search needs
+
+loop-less : tie.Need-loop-less Inv-loop μ-loop
+loop-less c = search needs
+
+loop-again : tie.Need-loop-again Inv-loop μ-loop
+loop-again c =
+    let v = c .before .before .before .loop in
+    let has = c .before .certificate-has-id in (
+      search needs,
+      v .inv .1,
+      v .inv .2,
+      below-goes-on _ no-certificate _ (v .j) {b = not (has .result)} (v .inv .0) (v .inv .3) (omega arith) (omega arith) refl
+          (not-same _ _ (λ z. v .inv .2 (v .inv .1 ∙ z)) (has .ensures ∙ ap (eqb _) (v .inv .1))) (ap (λ b. not (not b)) (c .if2 .left)),
+    )
+
+returns-3 : tie.Need-returns-3 Inv-loop μ-loop
+returns-3 c = below-passes _ no-certificate _ (c .before .loop .j) (c .before .loop .inv .0) (c .before .loop .inv .3) (omega arith)
+
+pub id-apart-spec : {M : Type 1} → statement M
+id-apart-spec =
+    tie.close
+    (tie.spec
+    Inv-loop
+    μ-loop
+    certificate-requires
+    returns
+    loop-holds
+    certificate-has-id-requires
+    returns-2
+    add-j
+    loop-less
+    loop-again
+    returns-3)
