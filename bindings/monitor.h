@@ -23,10 +23,15 @@
 extern "C" {
 #endif
 
-/* The largest image, an event, and an answer of monitor_run, in bytes. */
+/*
+ * The largest image, an event, an answer of monitor_run, a line of monitor_why
+ * and room for every line, in bytes.
+ */
 #define MONITOR_IMAGE_MAX 2536
 #define MONITOR_EVENT_SIZE 24
 #define MONITOR_ANSWER_SIZE 6
+#define MONITOR_LINE_SIZE 3
+#define MONITOR_WHY_SIZE 192
 
 /*
  * The parts of what monitor_open and monitor_step answer, a number with links
@@ -45,6 +50,30 @@ extern "C" {
 #define MONITOR_RUN_LINKS(bytes) ((bytes)[2])
 #define MONITOR_RUN_RULE(bytes) ((bytes)[3])
 #define MONITOR_RUN_OFFSET(bytes) ((uint16_t)((bytes)[4] * 256 + (bytes)[5]))
+
+/*
+ * The parts of what monitor_why answers: the number of lines in its bits 0 to
+ * 15, and code, rule and offset by the macros above.
+ */
+#define MONITOR_LINES(answer) ((uint16_t)(answer))
+
+/* The parts of a line of monitor_why: bytes points to the first of its three. */
+#define MONITOR_LINE_SAID(bytes) ((bytes)[0])
+#define MONITOR_LINE_ID(bytes) ((uint16_t)((bytes)[1] * 256 + (bytes)[2]))
+
+/* What a line says of the certificate or the executable with its id. */
+enum monitor_said {
+    MONITOR_SAID_LINK = 1,      /* a certificate of the chain */
+    MONITOR_SAID_UNSIGNED = 2,  /* an executable without a key */
+    MONITOR_SAID_UNHELD = 3,    /* an executable whose key no certificate has */
+    MONITOR_SAID_UNTRUSTED = 4, /* an executable in domain 0 despite a chain */
+    /* a certificate that is not good, and why */
+    MONITOR_SAID_ABSENT = 11,   /* it is on an absent card */
+    MONITOR_SAID_INVALID = 12,  /* it is marked invalid */
+    MONITOR_SAID_DISABLED = 13, /* it is disabled */
+    MONITOR_SAID_PAST = 14,     /* it is past its date */
+    MONITOR_SAID_UNSERVED = 15  /* it has no good signer within three links */
+};
 
 /*
  * 0 where the bytes are an image that keeps every rule. Where they are not,
@@ -82,6 +111,26 @@ uint64_t monitor_step(uint8_t *image, size_t image_length,
 size_t monitor_run(uint8_t *image, size_t image_length,
                    const uint8_t *events, size_t events_length,
                    uint8_t *answers, size_t answers_length);
+
+/*
+ * Why the executable with this id has its domain or has none: the answer as a
+ * number (see the macros), and lines of three bytes: what is said, and an id,
+ * high byte first. Code 0 has 1 to 64 lines, and the buffer gets as many as it
+ * has room for: MONITOR_WHY_SIZE bytes have room for every line.
+ *
+ * Where the executable's key chains to a domain they are the certificates of a
+ * shortest chain, root first, at each link from the signer up the lowest id
+ * that serves, and behind them the executable where it is in domain 0 all the
+ * same. Where it does not they are the certificates with that key, by id, each
+ * with the first of its reasons, in the order of their numbers; or the
+ * executable, where it has no key or no certificate has it.
+ *
+ * Code 1 where the image is not accepted: the number that monitor_open answers.
+ * Code 3 where no executable has the id, and for the id 0. Every code but 0
+ * has no lines and leaves the buffer byte for byte.
+ */
+uint64_t monitor_why(const uint8_t *image, size_t image_length, uint16_t id,
+                     uint8_t *lines, size_t lines_length);
 
 #ifdef __cplusplus
 }

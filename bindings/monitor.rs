@@ -14,6 +14,10 @@ pub const IMAGE_MAX: usize = 2536;
 pub const EVENT_SIZE: usize = 24;
 /// An answer of a run, in bytes.
 const ANSWER_SIZE: usize = 6;
+/// A line of an explanation, in bytes.
+const LINE_SIZE: usize = 3;
+/// Room for every line of an explanation, in bytes.
+const WHY_SIZE: usize = 192;
 
 /// Where an image is wrong: the first broken rule, 1 to 8, and an offset.
 ///
@@ -36,6 +40,45 @@ pub struct Answer {
     pub links: u8,
     pub rule: u8,
     pub offset: u16,
+}
+
+/// What a line of an explanation says.
+pub mod said {
+    /// A certificate of the chain.
+    pub const LINK: u8 = 1;
+    /// An executable without a key.
+    pub const UNSIGNED: u8 = 2;
+    /// An executable whose key no certificate has.
+    pub const UNHELD: u8 = 3;
+    /// An executable in domain 0 despite a chain.
+    pub const UNTRUSTED: u8 = 4;
+    /// A certificate that is not good: it is on an absent card.
+    pub const ABSENT: u8 = 11;
+    /// It is marked invalid.
+    pub const INVALID: u8 = 12;
+    /// It is disabled.
+    pub const DISABLED: u8 = 13;
+    /// It is past its date.
+    pub const PAST: u8 = 14;
+    /// It has no good signer within three links.
+    pub const UNSERVED: u8 = 15;
+}
+
+/// A line of an explanation: what is said, one of `said`, and the id of the
+/// certificate or the executable of which it is said.
+#[derive(Clone, Copy, Debug, PartialEq, Eq)]
+pub struct Line {
+    pub said: u8,
+    pub id: u16,
+}
+
+/// Why there is no explanation.
+#[derive(Clone, Copy, Debug, PartialEq, Eq)]
+pub enum Unexplained {
+    /// Code 1: the image is not accepted.
+    Image(Fault),
+    /// Code 3: no executable has the id.
+    Unknown,
 }
 
 /// The parts of a number: links in its bits 0 to 7, domain in 8 to 15, code in
@@ -72,6 +115,7 @@ extern "C" {
         answers: *mut u8,
         answers_length: usize,
     ) -> usize;
+    fn monitor_why(image: *const u8, image_length: usize, id: u16, lines: *mut u8, lines_length: usize) -> u64;
 }
 
 /// Whether the bytes are an image that keeps every rule, and where not. Any bytes:
@@ -110,4 +154,30 @@ pub fn run(image: &mut [u8], events: &[u8]) -> Vec<Answer> {
     };
     debug_assert_eq!(answered, count);
     told.chunks_exact(ANSWER_SIZE).map(from_bytes).collect()
+}
+
+/// Why the executable with this id has its domain or has none, in 1 to 64 lines.
+///
+/// Where its key chains to a domain they are the certificates of a shortest
+/// chain, root first, at each link from the signer up the lowest id that serves,
+/// and behind them the executable where it is in domain 0 all the same. Where it
+/// does not they are the certificates with that key, by id, each with the first
+/// of its reasons, in the order of their numbers; or the executable, where it has
+/// no key or no certificate has it.
+pub fn why(image: &[u8], id: u16) -> Result<Vec<Line>, Unexplained> {
+    let mut lines = [0u8; WHY_SIZE];
+    let told = unsafe { monitor_why(image.as_ptr(), image.len(), id, lines.as_mut_ptr(), lines.len()) };
+    let Answer { code, rule, offset, .. } = from_number(told);
+    match code {
+        0 => Ok(lines
+            .chunks_exact(LINE_SIZE)
+            .take(usize::from(told as u16))
+            .map(|l| Line {
+                said: l[0],
+                id: u16::from_be_bytes([l[1], l[2]]),
+            })
+            .collect()),
+        1 => Err(Unexplained::Image(Fault { rule, offset })),
+        _ => Err(Unexplained::Unknown),
+    }
 }

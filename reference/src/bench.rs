@@ -66,7 +66,7 @@ pub fn run_and_watch(stream: &[u8], mut watch: impl FnMut(&Phone, &[u8], Answer,
 }
 
 /// The printed line of an image that answers 1: the rule and the offset stand behind the code.
-fn refused_line(refusal: &Refusal) -> String {
+pub fn refused_line(refusal: &Refusal) -> String {
     format!("image 1 {} {}\n", refusal.broken.rule, refusal.offset)
 }
 

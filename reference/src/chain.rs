@@ -34,16 +34,19 @@ pub fn good_within(phone: &Phone, links: u8) -> Vec<bool> {
 }
 
 /// A present root with mark 1 and enabled 1. Its expiry is not looked at.
-fn is_trusted_root(phone: &Phone, record: &Certificate) -> bool {
+pub fn is_trusted_root(phone: &Phone, record: &Certificate) -> bool {
     record.kind == ROOT && phone.is_present(record.place) && record.mark == 1 && record.enabled == 1
 }
 
 /// A present issued record in date whose verifying key is the key of a good record of its domain.
 fn is_well_issued(phone: &Phone, record: &Certificate, good: &[bool]) -> bool {
-    record.kind == ISSUED
-        && phone.is_present(record.place)
-        && phone.clock <= record.expiry
+    is_issued_in_date(phone, record)
         && some_good_record(phone, good, record.domain, record.verifying_key)
+}
+
+/// What a link above the root has to be, whoever has signed it.
+pub fn is_issued_in_date(phone: &Phone, record: &Certificate) -> bool {
+    record.kind == ISSUED && phone.is_present(record.place) && phone.clock <= record.expiry
 }
 
 /// Every record with the key is asked, since a bad twin may stand before a good one.

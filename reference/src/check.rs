@@ -12,6 +12,7 @@ use crate::events::{Answer, REQUEST, VERIFY};
 use crate::image_rules::{first_broken, Broken};
 use crate::phone::Phone;
 use crate::refusal::Refusal;
+use crate::shown::Shown;
 use crate::text::{to_bytes, to_text};
 
 /// The row of the kind table for kinds that do not exist.
@@ -30,6 +31,8 @@ pub struct Counts {
     by_kind_and_code: [[u64; CODES]; OTHER_KIND + 1],
     verified: [[u64; 5]; 4],
     granted: [[u64; 5]; 4],
+    /// What the answers to questions show.
+    pub shown: Shown,
 }
 
 impl Counts {
@@ -79,6 +82,7 @@ impl Counts {
         add_table(&mut self.by_kind_and_code, &other.by_kind_and_code);
         add_table(&mut self.verified, &other.verified);
         add_table(&mut self.granted, &other.granted);
+        self.shown.merge(&other.shown);
     }
 
     /// The counts as text.

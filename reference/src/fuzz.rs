@@ -1,17 +1,21 @@
 //! The driver: runs a program on case after case and compares what it prints with the reference.
 //!
 //! Follows 01, "One run of `bench`, whole": the stream is standard input, the lines are
-//! standard output, and the program has to end well.
+//! standard output, and the program has to end well. For 02, "Tell the trainee why", it runs the
+//! program for every question about a stream, the question in the last words of the command.
 
 use std::io::Write;
 use std::path::{Path, PathBuf};
-use std::process::{Command, Stdio};
+use std::process::{Command, Output, Stdio};
 use std::sync::atomic::{AtomicBool, AtomicU64, Ordering};
 use std::sync::Mutex;
 use std::time::{Duration, Instant};
 
+use crate::asked::Scene;
 use crate::check::{checked_run, Counts};
+use crate::generate::questions::questions;
 use crate::generate::{case_of, Mix};
+use crate::why::Answer;
 
 /// When to stop where no difference is found.
 #[derive(Clone, Copy, Debug)]
@@ -20,8 +24,17 @@ pub enum Until {
     Time(Duration),
 }
 
+/// What a program is run for.
+#[derive(Clone, Copy, Debug, PartialEq, Eq)]
+pub enum Task {
+    /// The answers to the events of a stream.
+    Bench(Mix),
+    /// The answers to questions about a stream.
+    Why,
+}
+
 pub struct Plan {
-    pub mix: Mix,
+    pub task: Task,
     pub seed: u64,
     pub until: Until,
     pub workers: usize,
@@ -36,6 +49,8 @@ pub struct Difference {
     pub description: String,
     pub message: String,
     stream: Vec<u8>,
+    /// The words of the question, where one was asked.
+    words: Vec<String>,
     want: String,
     got: Vec<u8>,
 }
@@ -141,12 +156,25 @@ fn work(shared: &Shared) {
 }
 
 fn run_case(plan: &Plan, number: u64, counts: &mut Counts) -> Result<Option<Difference>, String> {
-    let case = case_of(plan.mix, plan.seed, number);
+    match plan.task {
+        Task::Bench(mix) => run_bench_case(plan, mix, number, counts),
+        Task::Why => run_why_case(plan, number, counts),
+    }
+}
+
+fn run_bench_case(
+    plan: &Plan,
+    mix: Mix,
+    number: u64,
+    counts: &mut Counts,
+) -> Result<Option<Difference>, String> {
+    let case = case_of(mix, plan.seed, number);
     let difference = |message: String, want: String, got: Vec<u8>| Difference {
         case: number,
         description: case.description.clone(),
         message,
         stream: case.stream.clone(),
+        words: Vec::new(),
         want,
         got,
     };
@@ -157,33 +185,137 @@ fn run_case(plan: &Plan, number: u64, counts: &mut Counts) -> Result<Option<Diff
             return Ok(Some(difference(message, String::new(), Vec::new())));
         }
     };
-    let (got, ended_well) = run_program(&plan.command, &case.stream)?;
-    if got != want.as_bytes() {
-        let message = first_difference(&want, &String::from_utf8_lossy(&got));
-        return Ok(Some(difference(message, want, got)));
+    let output = run_program(&plan.command, &[], &case.stream, Stdio::inherit())?;
+    if output.stdout != want.as_bytes() {
+        let message = first_difference(&want, &String::from_utf8_lossy(&output.stdout));
+        return Ok(Some(difference(message, want, output.stdout)));
     }
-    if let Err(status) = ended_well {
-        let message = format!("the output is right, but the program ended with {status}");
-        return Ok(Some(difference(message, want, got)));
+    if output.status.code() != Some(0) {
+        let message = ended_badly(&output);
+        return Ok(Some(difference(message, want, output.stdout)));
     }
     Ok(None)
 }
 
-/// The program's output, and how it ended where that was not well.
-fn run_program(command: &[String], stream: &[u8]) -> Result<(Vec<u8>, Result<(), String>), String> {
+/// What a command line must not be, in turn: no number, an id above 65535, and a word too many.
+const BAD_USAGE: [&[&str]; 9] = [
+    &[],
+    &["65536"],
+    &["1", "2", "3"],
+    &["x"],
+    &["1", "99999999999999999999"],
+    &["-1"],
+    &["1", "x"],
+    &["12a"],
+    &["99999999999999999999"],
+];
+
+/// All questions about one stream, and one that is none.
+fn run_why_case(
+    plan: &Plan,
+    number: u64,
+    counts: &mut Counts,
+) -> Result<Option<Difference>, String> {
+    let questions = questions(plan.seed, number);
+    let stream = &questions.case.stream;
+    let difference = |words: &[String], message: String, want: String, got: Vec<u8>| Difference {
+        case: number,
+        description: questions.case.description.clone(),
+        message: format!("asked `{}`: {message}", words.join(" ")),
+        stream: stream.clone(),
+        words: words.to_vec(),
+        want,
+        got,
+    };
+    let scene = Scene::of(stream, questions.events);
+    counts.shown.streams += 1;
+    for question in questions.all() {
+        let words = question.words();
+        let answer = match scene.checked_answer(question.id) {
+            Ok(answer) => answer,
+            Err(complaint) => {
+                let message = format!("the reference itself is wrong: {complaint}");
+                return Ok(Some(difference(&words, message, String::new(), Vec::new())));
+            }
+        };
+        counts.shown.add(&scene, question.id, &answer);
+        let output = run_program(&plan.command, &words, stream, Stdio::piped())?;
+        let want = answer.text(question.id);
+        if let Some(message) = complaint_about_answer(&answer, &want, question.id, &output) {
+            return Ok(Some(difference(&words, message, want, output.stdout)));
+        }
+    }
+    let bad_usage = BAD_USAGE[number as usize % BAD_USAGE.len()];
+    let words: Vec<String> = bad_usage.iter().map(|word| word.to_string()).collect();
+    let output = run_program(&plan.command, &words, stream, Stdio::piped())?;
+    let complaint = complaint_about_bad_usage(&output);
+    Ok(complaint.map(|message| difference(&words, message, String::new(), output.stdout)))
+}
+
+fn complaint_about_answer(answer: &Answer, want: &str, id: u16, output: &Output) -> Option<String> {
+    if output.stdout != want.as_bytes() {
+        let got = String::from_utf8_lossy(&output.stdout);
+        return Some(first_differing_line(want, &got));
+    }
+    // 02 does not say how a refusal ends; both ways are common.
+    let is_refused = matches!(answer, Answer::RefusedImage(_) | Answer::UnknownExecutable);
+    match output.status.code() {
+        Some(0) => {}
+        Some(1) if is_refused => {}
+        _ => return Some(ended_badly(output)),
+    }
+    let told = String::from_utf8_lossy(&output.stderr);
+    let mut numbers = told.split(|character: char| !character.is_ascii_digit());
+    let is_named = numbers.any(|number| number == id.to_string());
+    match answer {
+        Answer::UnknownExecutable if !is_named => {
+            Some(format!("standard error does not name the id {id}"))
+        }
+        _ => None,
+    }
+}
+
+fn complaint_about_bad_usage(output: &Output) -> Option<String> {
+    let lines = String::from_utf8_lossy(&output.stderr).lines().count();
+    if !output.stdout.is_empty() {
+        return Some("bad usage, but something is on standard output".to_string());
+    }
+    if lines != 1 {
+        return Some(format!("bad usage, but {lines} lines on standard error"));
+    }
+    match output.status.code() {
+        Some(2) => None,
+        _ => Some(format!("bad usage, but it ended with {}", output.status)),
+    }
+}
+
+fn ended_badly(output: &Output) -> String {
+    let status = output.status;
+    format!("the output is right, but the program ended with {status}")
+}
+
+/// What the program gives for a stream, with these words behind its own.
+fn run_program(
+    command: &[String],
+    words: &[String],
+    stream: &[u8],
+    standard_error: Stdio,
+) -> Result<Output, String> {
     let (program, arguments) = command
         .split_first()
         .ok_or_else(|| "no program to run".to_string())?;
     let failed = |error: std::io::Error| format!("cannot run {program}: {error}");
     let mut child = Command::new(program)
         .args(arguments)
+        .args(words)
         .stdin(Stdio::piped())
         .stdout(Stdio::piped())
+        .stderr(standard_error)
         .spawn()
         .map_err(failed)?;
     let input = child.stdin.take();
     // Writing has its own thread: the program may print before it has read everything.
-    let output = std::thread::scope(|scope| {
+    std::thread::scope(|scope| {
         scope.spawn(move || {
             if let Some(mut input) = input {
                 // A program that refuses the image stops reading; that is no error.
@@ -192,29 +324,46 @@ fn run_program(command: &[String], stream: &[u8]) -> Result<(Vec<u8>, Result<(),
         });
         child.wait_with_output()
     })
-    .map_err(failed)?;
-    let ended_well = match output.status.code() {
-        Some(0) => Ok(()),
-        _ => Err(output.status.to_string()),
-    };
-    Ok((output.stdout, ended_well))
+    .map_err(failed)
 }
 
 const FIELDS: [&str; 5] = ["number", "kind", "code", "domain", "links"];
 
-/// Says where two outputs differ first, down to the field.
+/// Says where two outputs of `bench` differ first, down to the field.
 pub fn first_difference(want: &str, got: &str) -> String {
+    difference_in(want, got, place_of, line_difference)
+}
+
+/// Says where two other outputs differ first.
+pub fn first_differing_line(want: &str, got: &str) -> String {
+    let place = |at: usize| format!("line {}", at + 1);
+    difference_in(want, got, place, |at, want, got| {
+        format!(
+            "{}: expected {}, found {}",
+            place(at),
+            quoted(want),
+            quoted(got)
+        )
+    })
+}
+
+fn difference_in(
+    want: &str,
+    got: &str,
+    place: impl Fn(usize) -> String,
+    in_line: impl Fn(usize, &str, &str) -> String,
+) -> String {
     let (mut want_lines, mut got_lines) = (want.lines(), got.lines());
     let mut at = 0;
     loop {
         match (want_lines.next(), got_lines.next()) {
             (Some(want), Some(got)) if want == got => at += 1,
-            (Some(want), Some(got)) => return line_difference(at, want, got),
+            (Some(want), Some(got)) => return in_line(at, want, got),
             (Some(want), None) => {
-                return format!("{}: missing, expected {}", place_of(at), quoted(want));
+                return format!("{}: missing, expected {}", place(at), quoted(want));
             }
             (None, Some(got)) => {
-                return format!("{}: nothing expected, found {}", place_of(at), quoted(got));
+                return format!("{}: nothing expected, found {}", place(at), quoted(got));
             }
             (None, None) => return "the line ends differ".to_string(),
         }
@@ -262,11 +411,12 @@ fn line_difference(at: usize, want: &str, got: &str) -> String {
     )
 }
 
-/// The three files of a kept case, without their endings.
+/// The files of a kept case, without their endings.
 pub fn kept_name(plan: &Plan, case: u64) -> PathBuf {
-    let name = match plan.mix {
-        Mix::All => "fuzz",
-        Mix::Damaged => "damaged",
+    let name = match plan.task {
+        Task::Bench(Mix::All) => "fuzz",
+        Task::Bench(Mix::Damaged) => "damaged",
+        Task::Why => "why",
     };
     plan.keep.join(format!("{name}-{}-{case}", plan.seed))
 }
@@ -276,6 +426,10 @@ fn keep(plan: &Plan, difference: &Difference) -> Result<(), String> {
         .map_err(|error| format!("cannot make {}: {error}", plan.keep.display()))?;
     let name = kept_name(plan, difference.case);
     write_file(&name.with_extension("in"), &difference.stream)?;
+    if plan.task == Task::Why {
+        let words = format!("{}\n", difference.words.join(" "));
+        write_file(&name.with_extension("id"), words.as_bytes())?;
+    }
     write_file(&name.with_extension("want"), difference.want.as_bytes())?;
     write_file(&name.with_extension("got"), &difference.got)
 }
@@ -298,5 +452,7 @@ mod tests {
         assert_eq!(told, "event 2: missing, expected `2 1 0 0 0`");
         let told = first_difference("event\nimage 1\n", "event\n1 2 3 4 5\n");
         assert_eq!(told, "event 1: expected `image 1`, found `1 2 3 4 5`");
+        let told = first_differing_line("a 1\nb 2\n", "a 1\nb 3\n");
+        assert_eq!(told, "line 2: expected `b 2`, found `b 3`");
     }
 }

@@ -6,7 +6,9 @@
 pub mod damage;
 pub mod events;
 pub mod images;
+pub mod ladders;
 pub mod mixed_damage;
+pub mod questions;
 
 use crate::bench::{self, event_records, split_stream};
 use crate::events::{step, Event};

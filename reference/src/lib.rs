@@ -4,6 +4,7 @@
 //! Nothing here is proved and nothing is shared with the proved side: the value of this
 //! crate is that it was written apart, so that a difference between the two means something.
 
+pub mod asked;
 pub mod bench;
 pub mod chain;
 pub mod check;
@@ -14,5 +15,8 @@ pub mod image_rules;
 pub mod phone;
 pub mod random;
 pub mod refusal;
+pub mod shown;
+pub mod stored_questions;
 pub mod text;
 pub mod vectors;
+pub mod why;

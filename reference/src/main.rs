@@ -11,13 +11,15 @@ use std::time::Duration;
 
 use reference::bench::{self, Run};
 use reference::check::{checked_run, Counts};
-use reference::fuzz::{fuzz, kept_name, write_file, Plan, Until};
+use reference::fuzz::{fuzz, kept_name, write_file, Plan, Task, Until};
 use reference::generate::{case_of, longer, Case, Mix};
 use reference::image_rules::{first_broken, Broken};
 use reference::phone::Header;
 use reference::refusal::open;
+use reference::stored_questions::{self, Choice};
 use reference::text::{to_bytes, to_text};
 use reference::vectors::{rewrite_answers, run_folder};
+use reference::why::{Answer, Question};
 
 const HELP: &str = "\
 An unproved reference of the phone monitor, for comparing.
@@ -27,10 +29,16 @@ usage: reference SUB-COMMAND
   bench   stream on standard input -> what `bench` prints
   image   stream on standard input -> the bytes of the image after the last event;
           nothing and exit status 1 where the image is refused
+  why ID [EVENTS]
+          stream on standard input -> why the executable ID is trusted or not, after so many of
+          the events (default: 0), as the program `why` prints it
   text    stream on standard input -> its text form
   bytes   text form on standard input -> the stream
   vectors DIR
           runs the cases of DIR and prints what the program `vectors` prints
+  vectors --why DIR
+          runs the questions of DIR (NAME.in, NAME.id, NAME.out) and prints what differs and what
+          the answers show
   answers DIR
           runs the cases of DIR and writes each NAME.out anew that says something else; prints
           where the stored ones differed; NAME.in and NAME.fin stay as they are
@@ -39,18 +47,26 @@ usage: reference SUB-COMMAND
   cases   --seed S --runs N --into DIR [--most-bytes B] [--damaged] [--fresh]
           writes N cases, of those with an image of at most B bytes: DIR/cases (a line for each), NAME.in, NAME.out and, where the
           image is accepted, NAME.fin; prints what they reach
-  fuzz    --seed S (--runs N | --seconds T) [--workers W] [--keep DIR] [--damaged] -- COMMAND ARGS...
+  cases   --why --seed S --runs N --into DIR [--most-bytes B] [--fresh]
+          writes N questions, of those about a stream of at most B bytes: DIR/cases, NAME.in,
+          NAME.id (`ID` or `ID EVENTS`) and NAME.out; prints what they show
+  fuzz    --seed S (--runs N | --seconds T) [--workers W] [--keep DIR] [--damaged | --why] -- COMMAND ARGS...
           runs COMMAND on case after case and stops at the first difference
 
   --damaged
           images damaged in one way or several, for the rule and the offset behind `image 1`
+  --why   questions as `why` answers them: COMMAND ARGS... ID [EVENTS] is run for each executable
+          of a stream, for an unknown id and for 0, and once with bad usage
   --fresh of the first 20,000 cases only those refused in a way that no earlier one is refused
-          in, at no first record of a table, and one accepted; N is then the most to write
+          in, at no first record of a table, and one accepted; with --why, of the questions about
+          the first 2,000 streams so many that each thing worth a count is shown four times;
+          N is then the most to write
 
 exit status: 0 good, 1 a difference or a refused image, 2 bad usage or unreadable
 ";
 
 const DAMAGED: &str = "--damaged";
+const WHY: &str = "--why";
 const FRESH: &str = "--fresh";
 
 /// How a sub-command ends where it does not end well.
@@ -89,6 +105,7 @@ fn run(arguments: &[String]) -> Result<(), Failure> {
     match name.as_str() {
         "bench" => plain(rest, run_bench),
         "image" => plain(rest, run_image),
+        "why" => run_why(rest),
         "text" => plain(rest, |stream| print(to_text(stream).as_bytes())),
         "bytes" => plain(rest, run_bytes),
         "vectors" => run_vectors(rest),
@@ -142,6 +159,16 @@ fn run_image(stream: &[u8]) -> Result<(), Failure> {
     }
 }
 
+fn run_why(words: &[String]) -> Result<(), Failure> {
+    let question = Question::of_words(words).map_err(|message| bad_usage(&message))?;
+    let answer = question.answer(&read()?);
+    print(answer.text(question.id).as_bytes())?;
+    if answer == Answer::UnknownExecutable {
+        eprintln!("reference: no executable has the id {}", question.id);
+    }
+    Ok(())
+}
+
 fn run_bytes(text: &[u8]) -> Result<(), Failure> {
     let text = std::str::from_utf8(text)
         .map_err(|error| Trouble(format!("the text is not UTF-8: {error}")))?;
@@ -187,10 +214,12 @@ impl<'a> Options<'a> {
         self.flags.contains(&flag)
     }
 
-    fn mix(&self) -> Mix {
-        match self.has(DAMAGED) {
-            true => Mix::Damaged,
-            false => Mix::All,
+    fn task(&self) -> Result<Task, Failure> {
+        match (self.has(DAMAGED), self.has(WHY)) {
+            (false, false) => Ok(Task::Bench(Mix::All)),
+            (true, false) => Ok(Task::Bench(Mix::Damaged)),
+            (false, true) => Ok(Task::Why),
+            (true, true) => Err(bad_usage("only one of --damaged and --why can be given")),
         }
     }
 
@@ -230,7 +259,11 @@ fn run_answers(words: &[String]) -> Result<(), Failure> {
 }
 
 fn run_vectors(words: &[String]) -> Result<(), Failure> {
-    let outcome = run_folder(only_folder(words)?).map_err(Trouble)?;
+    let outcome = match words {
+        [flag, rest @ ..] if flag == WHY => stored_questions::run_folder(only_folder(rest)?),
+        _ => run_folder(only_folder(words)?),
+    };
+    let outcome = outcome.map_err(Trouble)?;
     print(outcome.report.as_bytes())?;
     match outcome.differing {
         0 => Ok(()),
@@ -248,15 +281,18 @@ fn run_longer(words: &[String]) -> Result<(), Failure> {
 
 fn run_cases(words: &[String]) -> Result<(), Failure> {
     let known = ["--seed", "--runs", "--into", "--most-bytes"];
-    let options = Options::of(words, &known, &[DAMAGED, FRESH])?;
-    let (mix, seed) = (options.mix(), options.needed_number("--seed")?);
+    let options = Options::of(words, &known, &[DAMAGED, WHY, FRESH])?;
+    let seed = options.needed_number("--seed")?;
     let Some(folder) = options.find("--into") else {
         return Err(bad_usage("--into is missing"));
     };
     let folder = Path::new(folder);
+    let mix = match options.task()? {
+        Task::Why => return write_questions(&options, seed, folder),
+        Task::Bench(mix) => mix,
+    };
     let cases = chosen_cases(&options, mix, seed)?;
-    std::fs::create_dir_all(folder)
-        .map_err(|error| Trouble(format!("cannot make {}: {error}", folder.display())))?;
+    make_folder(folder)?;
     let mut counts = Counts::default();
     let mut list = String::new();
     for (number, case) in cases {
@@ -269,6 +305,24 @@ fn run_cases(words: &[String]) -> Result<(), Failure> {
     }
     write_file(&folder.join("cases"), list.as_bytes()).map_err(Trouble)?;
     print(counts.report().as_bytes())
+}
+
+fn make_folder(folder: &Path) -> Result<(), Failure> {
+    std::fs::create_dir_all(folder)
+        .map_err(|error| Trouble(format!("cannot make {}: {error}", folder.display())))
+}
+
+fn write_questions(options: &Options, seed: u64, folder: &Path) -> Result<(), Failure> {
+    let choice = Choice {
+        seed,
+        most: options.needed_number("--runs")? as usize,
+        most_bytes: options.number("--most-bytes")?.unwrap_or(u64::MAX) as usize,
+        fresh: options.has(FRESH),
+    };
+    make_folder(folder)?;
+    stored_questions::write_cases(&choice, folder).map_err(Trouble)?;
+    let outcome = stored_questions::run_folder(folder).map_err(Trouble)?;
+    print(outcome.report.as_bytes())
 }
 
 /// The first cases of a seed that fit the options, with their numbers.
@@ -357,11 +411,15 @@ fn outcome_in_words(case: &Case, run: &Run) -> String {
 fn run_fuzz(words: &[String]) -> Result<(), Failure> {
     let plan = read_plan(words)?;
     let outcome = fuzz(&plan).map_err(Trouble)?;
-    print(outcome.counts.report().as_bytes())?;
+    let (report, endings) = match plan.task {
+        Task::Why => (outcome.counts.shown.report(), ".in, .id, .want, .got"),
+        Task::Bench(_) => (outcome.counts.report(), ".in, .want, .got"),
+    };
+    print(report.as_bytes())?;
     match outcome.difference {
         None => print(b"\nno difference\n"),
         Some(found) => Err(Difference(format!(
-            "seed {}, case {} ({}): {}; kept as {}.in, .want, .got",
+            "seed {}, case {} ({}): {}; kept as {}{endings}",
             plan.seed,
             found.case,
             found.description,
@@ -380,7 +438,7 @@ fn read_plan(words: &[String]) -> Result<Plan, Failure> {
         return Err(bad_usage("a command is missing behind `--`"));
     }
     let known = ["--seed", "--runs", "--seconds", "--workers", "--keep"];
-    let options = Options::of(&words[..end], &known, &[DAMAGED])?;
+    let options = Options::of(&words[..end], &known, &[DAMAGED, WHY])?;
     let until = match (options.number("--runs")?, options.number("--seconds")?) {
         (Some(runs), None) => Until::Runs(runs),
         (None, Some(seconds)) => Until::Time(Duration::from_secs(seconds)),
@@ -391,7 +449,7 @@ fn read_plan(words: &[String]) -> Result<Plan, Failure> {
         return Err(bad_usage("--workers goes from 1 to 64"));
     }
     Ok(Plan {
-        mix: options.mix(),
+        task: options.task()?,
         seed: options.needed_number("--seed")?,
         until,
         workers: workers as usize,

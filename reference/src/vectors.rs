@@ -36,7 +36,7 @@ pub fn run_folder(folder: &Path) -> Result<Outcome, String> {
 }
 
 /// The names of a folder's cases, in the order of its list.
-fn names(folder: &Path) -> Result<Vec<String>, String> {
+pub fn names(folder: &Path) -> Result<Vec<String>, String> {
     let list = folder.join("cases");
     let text =
         String::from_utf8(read(&list)?).map_err(|error| format!("{}: {error}", list.display()))?;
@@ -47,7 +47,7 @@ fn first_word(line: &str) -> String {
     line.split(' ').next().unwrap_or("").to_string()
 }
 
-fn read(path: &Path) -> Result<Vec<u8>, String> {
+pub fn read(path: &Path) -> Result<Vec<u8>, String> {
     std::fs::read(path).map_err(|error| format!("cannot read {}: {error}", path.display()))
 }
 

@@ -1,62 +1,27 @@
--- Texts put one behind the other are one text. Assumes nothing.
+-- The line of an event: column by column, and the room for it. Assumes nothing.
 use Prim.Native.Nat.{ℕ, _+_, _≤_}
 use mathlib.Core.Bool.{Bool, true, false, cond}
-use mathlib.Core.List.{List, [], _∷_, _++_, append-assoc}
-use mathlib.Core.Path.{_≡_, ap, ap₂, _∙_}
-use native.Mathlib.Nat.{zero-add}
+use mathlib.Core.List.{List, [], _∷_, _++_}
 use native.Mathlib.Omega.{arith}
 use lib.Dec.{T, leb, leb→le}
 use lib.ListN.{length, length-append}
-use Rattle.octets.specs.Octets.{put}
-use Rattle.octets.proofs.Laws.{length-put}
-use Rattle.records.proofs.Puts.{put-next}
 use Rattle.rules.specs.declared.Answer.{Answer}
-use Rattle.stream.specs.Decimal.{most-digits, decimal}
+use Rattle.stream.specs.Decimal.{decimal, column}
 use Rattle.stream.proofs.Texts.{decimal-small}
-use Rattle.bench.specs.Lines.{column, line, longest-line, image-one, image-refused}
+use Rattle.stream.proofs.Lines.{Put, then}
+use Rattle.bench.specs.Lines.{line, longest-line}
 
--- a text put at i makes l into s, and ends at j
-abbrev pub Put : List ℕ → ℕ → List ℕ → List ℕ → ℕ → Type 0
-Put l i text s j = (s ≡ put l i text) × (j ≡ i + length text)
-
-then : (l : List ℕ) (i : ℕ) {s t : List ℕ} {j k : ℕ} (xs ys : List ℕ) → i ≤ length l → Put l i xs s j → Put s j ys t k → Put l i (xs ++ ys) t k
-then l i xs ys h a b =
-    let n = length-append xs ys in
-    (b .0 ∙ ap₂ (λ (s : List ℕ) (j : ℕ). put s j ys) (a .0) (a .1) ∙ put-next l i xs ys h, omega (arith, a .1, b .1))
-
+-- a line, column by column
 module _ (l : List ℕ) (at : ℕ) (room : at ≤ length l) (n kind : ℕ) (a : Answer) where
-  -- a line, column by column
   pub line-put : {p q r s t u : List ℕ} {i j k m o e : ℕ} → Put l at (decimal n) p i → Put p i (column kind) q j → Put q j (column (a .code)) r k
       → Put r k (column (a .domain)) s m → Put s m (column (a .links)) t o → Put t o (10 ∷ []) u e → Put l at (line n kind a) u e
   unfolding line
   line-put number kinded coded placed linked ended =
       let to-kind = then l at (decimal n) (column kind) room number kinded in
       let to-code = then l at (decimal n ++ column kind) (column (a .code)) room to-kind coded in
-      let to-domain = then l at ((decimal n ++ column kind) ++ column (a .code)) (column (a .domain)) room to-code placed in
-      let to-links = then l at (((decimal n ++ column kind) ++ column (a .code)) ++ column (a .domain)) (column (a .links)) room to-domain linked in
-      let whole = then l at ((((decimal n ++ column kind) ++ column (a .code)) ++ column (a .domain)) ++ column (a .links)) (10 ∷ []) room to-links ended in
-      let same : ((((decimal n ++ column kind) ++ column (a .code)) ++ column (a .domain)) ++ column (a .links)) ++ (10 ∷ [])
-      ≡ decimal n ++ column kind ++ column (a .code) ++ column (a .domain) ++ column (a .links) ++ (10 ∷ []) = simp append-assoc in
-      (whole .0 ∙ ap (put l at) same, whole .1 ∙ ap (λ (text : List ℕ). at + length text) same)
-
--- the line of a refused image, column by column
-pub refusal-put : (l : List ℕ) (a : Answer) {p q r s : List ℕ} {i j k e : ℕ} → Put l 0 image-one p i → Put p i (column (a .rule)) q j
-    → Put q j (column (a .offset)) r k → Put r k (10 ∷ []) s e → (s ≡ put l 0 (image-refused a)) × (e ≡ length (image-refused a))
-unfolding image-refused
-refusal-put l a one ruled placed ended =
-    let to-rule = then l 0 image-one (column (a .rule)) (omega arith) one ruled in
-    let to-offset = then l 0 (image-one ++ column (a .rule)) (column (a .offset)) (omega arith) to-rule placed in
-    let whole = then l 0 ((image-one ++ column (a .rule)) ++ column (a .offset)) (10 ∷ []) (omega arith) to-offset ended in
-    let same : ((image-one ++ column (a .rule)) ++ column (a .offset)) ++ (10 ∷ [])
-    ≡ image-one ++ column (a .rule) ++ column (a .offset) ++ (10 ∷ []) = simp append-assoc in
-    (whole .0 ∙ ap (put l 0) same, whole .1 ∙ zero-add _ ∙ ap length same)
-
--- where a number, and a column, end at the latest
-pub number-ends : (n at : ℕ) {r : ℕ} → r ≡ at + length (decimal n) → r ≤ at + most-digits
-number-ends n at e = let h = decimal-small n in omega arith
-
-pub column-ends : (n at : ℕ) {r : ℕ} → r ≡ at + length (column n) → r ≤ at + 1 + most-digits
-column-ends n at e = let h = decimal-small n in omega arith
+      let to-domain = then l at (decimal n ++ column kind ++ column (a .code)) (column (a .domain)) room to-code placed in
+      let to-links = then l at (decimal n ++ column kind ++ column (a .code) ++ column (a .domain)) (column (a .links)) room to-domain linked in
+      then l at (decimal n ++ column kind ++ column (a .code) ++ column (a .domain) ++ column (a .links)) (10 ∷ []) room to-links ended
 
 -- a line fits where the longest does
 pub line-small : (n kind : ℕ) (a : Answer) → length (line n kind a) ≤ longest-line
@@ -69,13 +34,6 @@ line-small n kind a =
     let linked = decimal-small (a .links) in
     simp length-append (omega arith)
 
-pub refusal-small : (a : Answer) → length (image-refused a) ≤ longest-line
-unfolding image-refused
-refusal-small a =
-    let ruled = decimal-small (a .rule) in
-    let placed = decimal-small (a .offset) in
-    simp length-append (omega arith)
-
 -- where a line goes there is room for it
 pub room-there : (used size : ℕ) → longest-line ≤ size → cond (leb (used + longest-line) size) used 0 + longest-line ≤ size
 room-there used size h = go (leb (used + longest-line) size) (λ t. leb→le (used + longest-line) size t)
@@ -83,7 +41,3 @@ room-there used size h = go (leb (used + longest-line) size) (λ t. leb→le (us
     go : (b : Bool) → (T b → used + longest-line ≤ size) → cond b used 0 + longest-line ≤ size
     go true f = f tt
     go false f = omega arith
-
--- a text at the start of a buffer is within it
-pub start-within : (l text : List ℕ) {s : List ℕ} {r : ℕ} → length text ≤ length l → (s ≡ put l 0 text) × (r ≡ length text) → r ≤ length s
-start-within l text h e = let n = ap length (e .0) ∙ length-put l 0 text (omega arith) in omega (arith, e .1)

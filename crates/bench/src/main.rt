@@ -11,8 +11,7 @@ ghost use Prim.Native.Nat.{_+_, _≤_};
 ghost use Rattle.octets.specs.Octets.{put};
 ghost use Rattle.records.specs.Sizes.{event-size};
 ghost use Rattle.opening.specs.Opened.{Accepted-image};
-ghost use Rattle.stream.specs.Decimal.{most-digits};
-ghost use Rattle.bench.specs.Lines.{column, line, longest-line, heading, image-refused};
+ghost use Rattle.bench.specs.Lines.{line, longest-line, heading};
 
 // Events are numbered as far as 64 bits count: a million of them a second take half a million years to get there.
 const MOST_EVENTS: u64 = 18446744073709551615;
@@ -34,25 +33,16 @@ fn room(out: &[u8], used: usize) -> usize
     0
 }
 
-// A space and a number put at a place: the place behind them.
-fn put_column(out: &mut [u8], at: usize, n: u64) -> usize
-    requires { ⌜ at + 1 + most-digits ≤ length (now out) ⌝ }
-    ensures { λ r. ⌜ (now (out .exit) ≡ put (now (out .entry)) at (column n)) × (r ≡ at + length (column n)) ⌝ }
-{
-    stream::put_text(out, at, b" ");
-    stream::put_number(out, at + 1, n)
-}
-
 // The line of an event's answer put at a place: the place behind it.
 fn put_line(out: &mut [u8], at: usize, n: u64, kind: u8, a: rules::Answer) -> usize
     requires { ⌜ at + longest-line ≤ length (now out) ⌝ }
     ensures { λ r. ⌜ (now (out .exit) ≡ put (now (out .entry)) at (line n kind a)) × (r ≡ at + length (line n kind a)) ⌝ }
 {
     let numbered = stream::put_number(out, at, n);
-    let kinded = put_column(out, numbered, kind as u64);
-    let coded = put_column(out, kinded, a.code as u64);
-    let placed = put_column(out, coded, a.domain as u64);
-    let linked = put_column(out, placed, a.links as u64);
+    let kinded = stream::put_column(out, numbered, kind as u64);
+    let coded = stream::put_column(out, kinded, a.code as u64);
+    let placed = stream::put_column(out, coded, a.domain as u64);
+    let linked = stream::put_column(out, placed, a.links as u64);
     stream::put_text(out, linked, b"\n");
     linked + 1
 }
@@ -64,18 +54,6 @@ fn put_heading(out: &mut [u8]) -> usize
 {
     stream::put_text(out, 0, b"event kind code domain links\n");
     29
-}
-
-// The line of an image that is refused, put at the start of a buffer: how long it is.
-fn put_refusal(out: &mut [u8], a: rules::Answer) -> usize
-    requires { ⌜ longest-line ≤ length (now out) ⌝ }
-    ensures { λ r. ⌜ (now (out .exit) ≡ put (now (out .entry)) 0 (image-refused a)) × (r ≡ length (image-refused a)) ⌝ }
-{
-    stream::put_text(out, 0, b"image 1");
-    let ruled = put_column(out, 7, a.rule as u64);
-    let placed = put_column(out, ruled, a.offset as u64);
-    stream::put_text(out, placed, b"\n");
-    placed + 1
 }
 
 // ---- a run
@@ -103,7 +81,8 @@ fn lesson(s: &mut [u8]) {
     let mut out = io::large_buffer();
     let fault = opening::open(s);
     if fault.rule != 0 {
-        let refusal = put_refusal(&mut out, opening::refused_at(s, fault));
+        let told = opening::refused_at(s, fault);
+        let refusal = stream::put_refusal(&mut out, told.rule, told.offset);
         io::write_all(STDOUT_FILENO, &out[..refusal]);
         return;
     }

@@ -1,3 +1,4 @@
 mod Runs
 mod Answers
+mod Lines
 pub mod Theorems

@@ -1,8 +1,9 @@
 -- WHAT A CALLER READS. Each sentence of bindings/monitor.h with its statement; the files cited hold the arguments. Assumes nothing.
--- l is an image, v an event, b a buffer of events and out one for answers, all of them any bytes;
+-- l is an image, v an event, b a buffer of events and out one for answers or lines, all of them any bytes; n is the id of an executable;
 -- l′ and out′ are what stands there after the call, r is its result.
--- What the statements speak of: `step`, `run` (rules, specs/Step), `code` (rules, specs/Codes), and here specs/Told.
-use Prim.Native.Nat.{ℕ, _+_, _*_, _%_, _≤_, _<_}
+-- What the statements speak of: `step`, `run` (rules, specs/Step), `code` (rules, specs/Codes), `explanation` (explanations, specs/Why),
+-- `lines-of`, `why-code` (reasons, specs/Lines), and here specs/Told.
+use Prim.Native.Nat.{ℕ, _+_, _*_, _/_, _%_, _≤_, _<_, min}
 use mathlib.Core.Bool.{true}
 use mathlib.Core.List.{List, _++_}
 use mathlib.Core.Logic.{_≢_, _↔_}
@@ -12,7 +13,7 @@ use lib.ListN.{length, getD, take, drop}
 use Rattle.octets.specs.Octets.{bytes}
 use Rattle.octets.proofs.Laws.{getD-put-after}
 use Rattle.records.specs.Sizes.{event-size}
-use Rattle.records.specs.Phone.{joined}
+use Rattle.records.specs.Phone.{decode, joined}
 use Rattle.records.proofs.Joined.{length-joined}
 use Rattle.rules.specs.declared.Answer.{Answer}
 use Rattle.rules.specs.ImageRules.{accepted, «open»}
@@ -21,10 +22,15 @@ use Rattle.rules.specs.Codes.{code}
 use Rattle.rules.specs.Step.{refused, step, run, answers}
 use Rattle.rules.proofs.Where.{no-fault-accepted, rule-known}
 use Rattle.demands.proofs.Answers.{answer-code, told-where, told-no-fault}
+use Rattle.explanations.specs.Why.{said-link, line, explanation}
+use Rattle.reasons.specs.Lines.{line-size, most-lines, with-lines, why-code, lines-of}
+use Rattle.reasons.proofs.Room.{lines-few, lines-some}
 use Rattle.monitor.specs.Told.{packed, opened, told-code, told-domain, told-links, told-rule, told-offset, Stepped}
 use Rattle.monitor.specs.Told.{answer-size, answer-bytes, answer-at, events-of, event-count, answered, Ran}
+use Rattle.monitor.specs.Told.{why-packed, told-lines, line-at, Asked}
 use Rattle.monitor.proofs.Runs.{counted, answered-room}
 use Rattle.monitor.proofs.Answers as Answers
+use Rattle.monitor.proofs.Lines as Lines
 
 -- ==== the number that monitor_open and monitor_step answer
 
@@ -134,6 +140,51 @@ pub goes-on : (l b : List ℕ) (n m : ℕ)
     × (answers l (events-of b (n + m)) ≡ answers l (events-of b n) ++ answers (run l (events-of b n)) (events-of (drop (n * event-size) b) m))
 goes-on l b n m = (Answers.run-further l b n m, Answers.answers-further l b n m)
 
+-- ==== monitor_why
+
+module _ (l : List ℕ) (n : ℕ) (out : List ℕ) (r : ℕ) (out′ : List ℕ) (s : Asked l n out r out′) where
+  -- "The parts of what monitor_why answers": what the shifts give; rule and offset are those of monitor_open
+  pub why-read : (told-lines r ≡ length (lines-of l n))
+      × (told-code r ≡ why-code l n)
+      × (told-rule r ≡ fault l .rule)
+      × (told-offset r ≡ fault-offset l)
+  why-read = rw (s .answer) (Lines.why-unpacked l n)
+
+  code-asked : told-code r ≡ why-code l n
+  code-asked = why-read .1
+
+  -- "the number that monitor_open answers" where the image is not accepted
+  pub why-opened : accepted l ≢ true → r ≡ packed (opened l)
+  why-opened h = s .answer ∙ Lines.why-opened l n h
+
+  -- "1 to 64 lines" for code 0, which are the explanation of 02, item 2
+  pub why-told : told-code r ≡ 0 → (lines-of l n ≡ explanation (decode l) n) × (1 ≤ told-lines r) × (told-lines r ≤ most-lines)
+  why-told z =
+      let c = sym code-asked ∙ z in
+      (Lines.lines-granted l n c, rw (why-read .0) (lines-some l n c), rw (why-read .0) (lines-few l n))
+
+  -- "every other code has none and leaves the buffer byte for byte"
+  pub why-kept : told-code r ≢ 0 → (out′ ≡ out) × (told-lines r ≡ 0)
+  why-kept h =
+      let e = Lines.lines-refused l n (λ z. h (code-asked ∙ z)) in
+      (s .told ∙ Lines.none-told out (lines-of l n) e, why-read .0 ∙ ap length e)
+
+  -- "MONITOR_WHY_SIZE bytes have room for every line"
+  pub why-whole : most-lines * line-size ≤ length out → out′ ≡ with-lines out (lines-of l n)
+  why-whole h = s .told ∙ Lines.all-told out (lines-of l n) (lines-few l n) h
+
+  -- in any buffer the i-th line, the first one counted 0, is told where it ends within the buffer,
+  pub why-line : (i : ℕ) → i < told-lines r → i * line-size + line-size ≤ length out → line-at out′ i ≡ getD (lines-of l n) i (line 0 0)
+  why-line i h room =
+      let k = why-read .0 in
+      ap (λ (o : List ℕ). line-at o i) (s .told) ∙ Lines.line-read out (lines-of l n) i (omega arith) room
+
+  -- and the bytes behind the last that is told are kept
+  pub why-behind : (k : ℕ) → min (told-lines r) (length out / line-size) * line-size ≤ k → getD out′ k 0 ≡ getD out k 0
+  why-behind k h =
+      let e = why-read .0 in
+      ap (λ (o : List ℕ). getD o k 0) (s .told) ∙ Lines.line-behind out (lines-of l n) k (omega arith)
+
 -- ==== computed
 
 abbrev granted : Answer
@@ -178,3 +229,14 @@ answered-fewer = refl
 
 pub counted-short : (event-count 335 ≡ 14) × (event-count 337 ≡ 15) × (event-count 0 ≡ 0)
 counted-short = (refl, refl, refl)
+
+-- two lines, and a damaged image, whose number is that of opening it
+pub packed-lines : (why-packed (record { code = 0; rule = 0; offset = 0; lines = 2 }) ≡ 0x0002) × (told-lines 0x0002 ≡ 2) × (told-code 0x0002 ≡ 0)
+packed-lines = (refl, refl, refl)
+
+pub packed-why-damaged : why-packed (record { code = 1; rule = 4; offset = 88; lines = 0 }) ≡ packed damaged
+packed-why-damaged = refl
+
+-- a chain of two, the root's id 10 and the signer's 300: the second line
+pub lines-chain : line-at (bytes 6 0x01_00_0a_01_01_2c) 1 ≡ line said-link 300
+lines-chain = refl

@@ -11,6 +11,9 @@ use Rattle.records.specs.Phone.{joined}
 use Rattle.rules.specs.declared.Answer.{Answer}
 use Rattle.rules.specs.Step.{refused, refused-at, step, run, answers}
 use Rattle.rules.specs.ImageRules.{accepted}
+use Rattle.explanations.specs.Why.{Line, line}
+use Rattle.reasons.specs.declared.Why.{Why}
+use Rattle.reasons.specs.Lines.{line-size, with-lines, lines-of, why}
 
 -- ---- one step
 
@@ -88,3 +91,26 @@ pub record Followed (l b out : List ℕ) (n : ℕ) (l′ out′ : List ℕ) : Ty
 pub record Ran (l b out : List ℕ) (n : ℕ) (l′ out′ : List ℕ) : Type 0 where
   pub count : n ≡ answered (length b) (length out)
   pub followed : Followed l b out n l′ out′
+
+-- ---- why
+
+-- the answer as one number, from the low byte up: two bytes of the number of lines, code, rule, and two bytes of offset, the last three where
+-- `packed` has them
+abbrev pub why-packed : Why → ℕ
+why-packed w = ((w .offset * 256 + w .rule) * 256 + w .code) * 65536 + w .lines
+
+-- what a caller reads from it: MONITOR_LINES, the lowest two bytes, and MONITOR_CODE, MONITOR_RULE and MONITOR_OFFSET as above
+abbrev pub told-lines : ℕ → ℕ
+told-lines n = n % 65536
+
+-- what a caller reads from the buffer as its i-th line, the first one counted 0: MONITOR_LINE_SAID and MONITOR_LINE_ID
+abbrev pub line-from : List ℕ → ℕ → Line
+line-from out k = line (getD out k 0) (getD out (k + 1) 0 * 256 + getD out (k + 2) 0)
+
+abbrev pub line-at : List ℕ → ℕ → Line
+line-at out i = line-from out (i * line-size)
+
+-- the number, and the lines that there is room for
+pub record Asked (l : List ℕ) (n : ℕ) (out : List ℕ) (r : ℕ) (out′ : List ℕ) : Type 0 where
+  pub answer : r ≡ why-packed (why l n)
+  pub told : out′ ≡ with-lines out (take (length out / line-size) (lines-of l n))

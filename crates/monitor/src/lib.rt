@@ -1,4 +1,5 @@
-// The library that a simulator links: opening an image, one event on it, and a run of events.
+// The library that a simulator links: opening an image, one event on it, a run of events, and why an executable has its domain or has none.
+use reasons::Why;
 use records::Event;
 use rules::Answer;
 ghost use mathlib.Core.Path.{_≡_};
@@ -9,7 +10,9 @@ ghost use Rattle.records.specs.Sizes.{event-size};
 ghost use Rattle.records.specs.Phone.{joined};
 ghost use Rattle.opening.specs.Opened.{Accepted-image};
 ghost use Rattle.events.specs.Stepped.{Stepped-on};
+ghost use Rattle.reasons.specs.Lines.{most-lines};
 ghost use Rattle.monitor.specs.Told.{packed, opened, Stepped, answer-size, answer-bytes, event-count, answered, Followed, Ran};
+ghost use Rattle.monitor.specs.Told.{why-packed, Asked};
 
 const ANSWER_SIZE: usize = 6;
 
@@ -132,4 +135,24 @@ pub extern "C" fn monitor_run(image: &mut [u8], events: &[u8], answers: &mut [u8
     }
     follow(image, events, answers, n);
     n
+}
+
+// ---- why
+
+// An answer of `reasons` in one register.
+fn pack_why(w: Why) -> u64
+    requires { ⌜ w .lines ≤ most-lines ⌝ }
+    ensures { λ r. ⌜ r ≡ why-packed w ⌝ }
+{
+    ((w.offset as u64 * 256 + w.rule as u64) * 256 + w.code as u64) * 65536 + w.lines as u64
+}
+
+// Why an executable has its domain or has none: the answer as a number, from the low byte up two bytes of the number of lines, code, rule and
+// two bytes of offset, and in the buffer as many of the lines, three bytes each, as it has room for. Any bytes.
+#[no_mangle]
+pub extern "C" fn monitor_why(image: &[u8], id: u16, lines: &mut [u8]) -> u64
+    ensures { λ r. ⌜ Asked (now (image .entry)) id (now (lines .entry)) r (now (lines .exit)) ⌝ }
+{
+    let told = reasons::explain(image, id, lines);
+    pack_why(told)
 }

@@ -1,7 +1,7 @@
 -- A number as text. Definitions only.
 use Prim.Native.Nat.{ℕ, zero, suc, _/_}
 use mathlib.Core.Bool.{cond}
-use mathlib.Core.List.{List}
+use mathlib.Core.List.{List, _∷_}
 use lib.Dec.{ltb}
 use Rattle.io.specs.Digits.{digits}
 
@@ -17,3 +17,7 @@ places-within (suc more) n = cond (ltb n 10) 1 (suc (places-within more (n / 10)
 -- the decimal digits of a number of 64 bits, in ASCII and without zeros in front
 unfoldable pub decimal : ℕ → List ℕ
 decimal n = digits 10 (places-within 19 n) n
+
+-- a space and a number
+abbrev pub column : ℕ → List ℕ
+column n = 32 ∷ decimal n

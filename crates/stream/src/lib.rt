@@ -5,7 +5,8 @@ ghost use mathlib.Core.Path.{_≡_};
 ghost use lib.ListN.{length};
 ghost use Rattle.octets.specs.Octets.{put};
 ghost use Rattle.records.specs.Sizes.{largest-image};
-ghost use Rattle.stream.specs.Decimal.{most-digits, decimal};
+ghost use Rattle.stream.specs.Decimal.{most-digits, decimal, column};
+ghost use Rattle.stream.specs.Refusal.{image-refused, longest-refusal};
 
 // The largest image: 64 certificates, 8 cards, 64 executables and 32 actions.
 pub const LARGEST: usize = 2536;
@@ -52,4 +53,25 @@ pub fn put_number(out: &mut [u8], at: usize, n: u64) -> usize
     let k = io::decimal(n, &mut digits);
     put_text(out, at, &digits[..k]);
     at + k
+}
+
+// A space and a number put at a place: the place behind them.
+pub fn put_column(out: &mut [u8], at: usize, n: u64) -> usize
+    requires { ⌜ at + 1 + most-digits ≤ length (now out) ⌝ }
+    ensures { λ r. ⌜ (now (out .exit) ≡ put (now (out .entry)) at (column n)) × (r ≡ at + length (column n)) ⌝ }
+{
+    put_text(out, at, b" ");
+    put_number(out, at + 1, n)
+}
+
+// The line of an image that is refused, put at the start of a buffer: how long it is.
+pub fn put_refusal(out: &mut [u8], rule: u8, offset: u16) -> usize
+    requires { ⌜ longest-refusal ≤ length (now out) ⌝ }
+    ensures { λ r. ⌜ (now (out .exit) ≡ put (now (out .entry)) 0 (image-refused rule offset)) × (r ≡ length (image-refused rule offset)) ⌝ }
+{
+    put_text(out, 0, b"image 1");
+    let ruled = put_column(out, 7, rule as u64);
+    let placed = put_column(out, ruled, offset as u64);
+    put_text(out, placed, b"\n");
+    placed + 1
 }

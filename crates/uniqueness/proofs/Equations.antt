@@ -450,6 +450,11 @@ one-effects-settle-domain κs a r r′ e e′ = written
 pub one-effects-settle : One-outcome Rattle.effects.proofs.settle.Reads.Learnt (λ e. e .0 .now ∷ [])
 one-effects-settle κs a r r′ e e′ = written
 
+-- ==== reasons
+
+pub one-reasons-reason : One-result Rattle.reasons.proofs.reason.Reads.Learnt
+one-reasons-reason κs a r r′ e e′ = returned
+
 -- ==== monitor
 
 pub one-monitor-open : One-result Rattle.monitor.proofs.monitor_open.Reads.Learnt

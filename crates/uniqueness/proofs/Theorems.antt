@@ -100,7 +100,12 @@ one-events-step-on κs a r r′ e e′ x y = one-stepped (x .stepped) (y .steppe
 pub one-events-step : One-outcome Rattle.events.proofs.step.Reads.Learnt (λ e. e .0 .now ∷ [])
 one-events-step κs a r r′ e e′ = one-stepped
 
--- ==== monitor: the answer as a number and the image; the count, the image and the buffer of answers
+-- ==== reasons: the answer, and the buffer of lines
+
+pub one-reasons-explain : One-outcome Rattle.reasons.proofs.explain.Reads.Learnt (λ e. e .1 .1 .0 .now ∷ [])
+one-reasons-explain κs a r r′ e e′ x y = (returned (x .answer) (y .answer), buffer (x .told) (y .told))
+
+-- ==== monitor: the answer as a number and the image; the count, the image and the buffer of answers; the answer and the buffer of lines
 
 pub one-monitor-step : One-outcome Rattle.monitor.proofs.monitor_step.Reads.Learnt (λ e. e .0 .now ∷ [])
 one-monitor-step κs a r r′ e e′ x y = (returned (x .answer) (y .answer), buffer (x .image) (y .image))
@@ -115,7 +120,16 @@ one-monitor-run κs a r r′ e e′ x y =
     let f = one-followed (x .followed) (subst (λ n. Followed (a .0 .now) (a .1 .0 .now) (a .1 .1 .0 .now) n (e′ .0 .now) (e′ .1 .1 .0 .now)) (sym count) (y .followed)) in
     (count, ap (λ l. l ∷ e .1 .1 .0 .now ∷ []) (f .0) ∙ ap (λ out. e′ .0 .now ∷ out ∷ []) (f .1))
 
+pub one-monitor-why : One-outcome Rattle.monitor.proofs.monitor_why.Reads.Learnt (λ e. e .1 .1 .0 .now ∷ [])
+one-monitor-why κs a r r′ e e′ x y = (returned (x .answer) (y .answer), buffer (x .told) (y .told))
+
 -- ==== stream: the buffer, and the place behind what was put
 
 pub one-stream-put-number : One-outcome Rattle.stream.proofs.put_number.Reads.Learnt (λ e. e .0 .now ∷ [])
 one-stream-put-number κs a r r′ e e′ x y = (returned (x .1) (y .1), buffer (x .0) (y .0))
+
+pub one-stream-put-column : One-outcome Rattle.stream.proofs.put_column.Reads.Learnt (λ e. e .0 .now ∷ [])
+one-stream-put-column κs a r r′ e e′ x y = (returned (x .1) (y .1), buffer (x .0) (y .0))
+
+pub one-stream-put-refusal : One-outcome Rattle.stream.proofs.put_refusal.Reads.Learnt (λ e. e .0 .now ∷ [])
+one-stream-put-refusal κs a r r′ e e′ x y = (returned (x .1) (y .1), buffer (x .0) (y .0))

@@ -346,6 +346,18 @@ fn executable_ids(phone: &Phone) -> Vec<u16> {
     phone.occupied_executables().map(|e| e.id).collect()
 }
 
+/// An id that no executable has, often one of a certificate: the two spaces are separate.
+pub fn unknown_executable_id(random: &mut Random, phone: &Phone) -> u16 {
+    let known = executable_ids(phone);
+    let mut others = certificate_ids(phone);
+    others.retain(|id| !known.contains(id));
+    match random.percent(50) {
+        true => random.choose(&others),
+        false => None,
+    }
+    .unwrap_or_else(|| unknown_id(random, &known))
+}
+
 fn any_executable_id_to_install(random: &mut Random, phone: &Phone) -> u16 {
     let known = executable_ids(phone);
     match random.percent(15) {

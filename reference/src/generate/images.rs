@@ -115,7 +115,7 @@ pub struct Keys {
 }
 
 impl Keys {
-    fn any(random: &mut Random, for_each: usize) -> Keys {
+    pub(super) fn any(random: &mut Random, for_each: usize) -> Keys {
         let mut all: Vec<u32> = (1000..1040).collect();
         all.extend(
             AWKWARD_KEYS
@@ -135,14 +135,14 @@ impl Keys {
     }
 
     /// A key that is not in the list, where the pool has one.
-    fn pick_new(&self, random: &mut Random, domain: u8, used: &[u32]) -> u32 {
+    pub(super) fn pick_new(&self, random: &mut Random, domain: u8, used: &[u32]) -> u32 {
         let key = (0..8)
             .map(|_| self.pick(random, domain))
             .find(|key| !used.contains(key));
         key.unwrap_or_else(|| self.pick(random, domain))
     }
 
-    fn pick_any(&self, random: &mut Random) -> u32 {
+    pub(super) fn pick_any(&self, random: &mut Random) -> u32 {
         let domain = random.one_of([OPERATOR, MANUFACTURER, THIRD_PARTY]);
         self.pick(random, domain)
     }
@@ -198,18 +198,18 @@ pub fn any_row(random: &mut Random) -> TableRow {
 }
 
 /// Everything that the making of one image needs to look at.
-struct Maker<'a> {
-    random: &'a mut Random,
-    keys: Keys,
-    cards: Vec<Card>,
-    card_present: u16,
-    clock: u32,
-    records: Vec<Certificate>,
+pub(super) struct Maker<'a> {
+    pub random: &'a mut Random,
+    pub keys: Keys,
+    pub cards: Vec<Card>,
+    pub card_present: u16,
+    pub clock: u32,
+    pub records: Vec<Certificate>,
 }
 
 impl Maker<'_> {
     /// The phone or the present card: where a good record has to stand.
-    fn present_place(&mut self) -> u16 {
+    pub fn present_place(&mut self) -> u16 {
         match self.random.percent(65) {
             true => 0,
             false => self.card_present,
@@ -223,7 +223,7 @@ impl Maker<'_> {
         }
     }
 
-    fn absent_place(&mut self) -> Option<u16> {
+    pub fn absent_place(&mut self) -> Option<u16> {
         let present = self.card_present;
         let absent: Vec<u16> = self
             .cards
@@ -235,7 +235,7 @@ impl Maker<'_> {
     }
 
     /// I4 ties the owner of an operator root on a card; the phone's one is better off with it too.
-    fn root_owner(&mut self, place: u16) -> u32 {
+    pub fn root_owner(&mut self, place: u16) -> u32 {
         let wanted = match (place, self.card_present) {
             (0, 0) => self.random.choose(&self.cards).map_or(0, |c| c.number),
             (0, present) => present,
@@ -248,7 +248,7 @@ impl Maker<'_> {
         }
     }
 
-    fn root(&mut self, domain: u8, key: u32, place: u16) -> Certificate {
+    pub fn root(&mut self, domain: u8, key: u32, place: u16) -> Certificate {
         let place = if domain == MANUFACTURER { 0 } else { place };
         Certificate {
             id: 0,
@@ -264,7 +264,7 @@ impl Maker<'_> {
         }
     }
 
-    fn issued(&mut self, domain: u8, key: u32, verifying_key: u32, place: u16) -> Certificate {
+    pub fn issued(&mut self, domain: u8, key: u32, verifying_key: u32, place: u16) -> Certificate {
         Certificate {
             id: 0,
             place,
@@ -307,7 +307,7 @@ impl Maker<'_> {
     }
 
     /// Mostly far off, so that a chain of many links lives for a while.
-    fn chain_expiry(&mut self) -> u32 {
+    pub fn chain_expiry(&mut self) -> u32 {
         match self.random.percent(70) {
             true => self
                 .clock
@@ -427,7 +427,7 @@ impl Maker<'_> {
 }
 
 /// Ids that differ from each other, the awkward ones among them.
-fn distinct_ids(random: &mut Random, count: usize) -> Vec<u16> {
+pub(super) fn distinct_ids(random: &mut Random, count: usize) -> Vec<u16> {
     let mut ids: Vec<u16> = (2..120).chain(AWKWARD_IDS).collect();
     random.shuffle(&mut ids);
     ids.truncate(count);
@@ -435,7 +435,7 @@ fn distinct_ids(random: &mut Random, count: usize) -> Vec<u16> {
 }
 
 /// Puts records into slots in any order, free slots between them.
-fn spread<T: Copy>(random: &mut Random, records: &[T], slots: usize) -> Vec<Option<T>> {
+pub(super) fn spread<T: Copy>(random: &mut Random, records: &[T], slots: usize) -> Vec<Option<T>> {
     let mut all: Vec<Option<T>> = records.iter().copied().map(Some).collect();
     all.resize(slots, None);
     // In their own order now and then, so that lowest slots come first too.
@@ -447,7 +447,7 @@ fn spread<T: Copy>(random: &mut Random, records: &[T], slots: usize) -> Vec<Opti
 
 /// Unmarks operator and manufacturer roots until I5 holds. The present card's operator root
 /// goes before the phone's, unless it is wanted that the phone's may stay.
-fn repair_marks(phone: &mut Phone, phone_goes_first: bool) {
+pub(super) fn repair_marks(phone: &mut Phone, phone_goes_first: bool) {
     keep_one_valid(phone, |c| c.is_valid_root_of(MANUFACTURER));
     let numbers: Vec<u16> = phone.cards.iter().map(|card| card.number).collect();
     for place in numbers {

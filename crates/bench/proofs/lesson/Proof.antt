@@ -1,8 +1,8 @@
 use native.Mathlib.Omega.{arith}
 use mathlib.Core.Path.{sym}
 use lib.Seq.{length-take-le}
-use Rattle.bench.specs.Lines.{image-refused}
-use Rattle.bench.proofs.Texts.{refusal-small, start-within}
+use Rattle.stream.specs.Refusal.{image-refused}
+use Rattle.stream.proofs.Lines.{refusal-small, start-within}
 use borrow.Author.Needs.{needs}
 use Rattle.bench.proofs.lesson.Statement.{statement}
 use Rattle.bench.proofs.lesson.Tie as tie
@@ -13,31 +13,31 @@ large-buffer-requires c κs = search needs
 open-requires : tie.Need-open-requires
 open-requires c κs = search needs
 
-slice-aggregate-put-refusal : tie.Need-slice-aggregate-put-refusal
-slice-aggregate-put-refusal c = search needs
-
 refused-at-requires : tie.Need-refused-at-requires
 refused-at-requires c κs = search needs
+
+slice-aggregate-put-refusal : tie.Need-slice-aggregate-put-refusal
+slice-aggregate-put-refusal c = search needs
 
 put-refusal-requires : tie.Need-put-refusal-requires
 put-refusal-requires c κs = search needs
 
--- the state behind the buffer, from that behind the refusal
+-- the states behind the answer and behind the buffer, from that behind the refusal
+abbrev answered : tie.After-put-refusal → tie.After-refused-at
+answered c = c .before .before
+
 abbrev buffered : tie.After-put-refusal → tie.After-large-buffer
-buffered c = c .before .before .before .before .before .before .before .before
+buffered c = answered c .before .before .before .before .before .before
 
 array-share-prefix-out : tie.Need-array-share-prefix-out
 array-share-prefix-out c =
-    let put = c .before in
-    let told = put .before .refused-at .result in
-    start-within _ (image-refused told) (omega (arith, refusal-small told, buffered put .large-buffer .ensures)) (put .put-refusal .ensures)
+    let a = answered (c .before) .refused-at .result in
+    let small = refusal-small (a .rule) (a .offset) in
+    let size = buffered (c .before) .large-buffer .ensures in
+    start-within _ (image-refused (a .rule) (a .offset)) (omega (arith, small, size)) (c .before .put-refusal .ensures)
 
 slice-aggregate-write-all : tie.Need-slice-aggregate-write-all
-slice-aggregate-write-all c =
-    let put = c .before .before in
-    let told = put .before .refused-at .result in
-    let fits = start-within _ (image-refused told) (omega (arith, refusal-small told, buffered put .large-buffer .ensures)) (put .put-refusal .ensures) in
-    sym (length-take-le _ _ fits)
+slice-aggregate-write-all c = sym (length-take-le _ _ (array-share-prefix-out (c .before)))
 
 write-all-requires : tie.Need-write-all-requires
 write-all-requires c κs = search needs
@@ -72,8 +72,8 @@ lesson-spec =
     (tie.spec
     large-buffer-requires
     open-requires
-    slice-aggregate-put-refusal
     refused-at-requires
+    slice-aggregate-put-refusal
     put-refusal-requires
     array-share-prefix-out
     slice-aggregate-write-all

@@ -2,7 +2,7 @@ use native.Mathlib.Omega.{arith}
 use mathlib.Core.Path.{sym}
 use lib.Seq.{length-take-le}
 use Rattle.bench.specs.Lines.{heading}
-use Rattle.bench.proofs.Texts.{start-within}
+use Rattle.stream.proofs.Lines.{start-within}
 use borrow.Author.Needs.{needs}
 use Rattle.bench.proofs.main.Statement.{statement}
 use Rattle.bench.proofs.main.Tie as tie

@@ -1,6 +1,7 @@
 use native.Mathlib.Omega.{arith}
 use mathlib.Core.Path.{refl}
-use Rattle.bench.proofs.Texts.{number-ends, column-ends, line-put}
+use Rattle.stream.proofs.Lines.{number-ends, column-ends}
+use Rattle.bench.proofs.Texts.{line-put}
 use borrow.Author.Needs.{needs}
 use Rattle.bench.proofs.put_line.Statement.{statement}
 use Rattle.bench.proofs.put_line.Tie as tie

@@ -1,0 +1,49 @@
+use Rattle.reasons.proofs.Whole.{told-no-id, told-unknown, told-known}
+use borrow.Author.Needs.{needs}
+use Rattle.reasons.proofs.explain_accepted.Statement.{statement}
+use Rattle.reasons.proofs.explain_accepted.Tie as tie
+
+unknown-requires : tie.Need-unknown-requires
+unknown-requires c κs = search needs
+
+returns : tie.Need-returns
+returns c = search (needs, told-no-id)
+
+executable-slot-requires : tie.Need-executable-slot-requires
+executable-slot-requires c κs = search needs
+
+executable-slots-requires : tie.Need-executable-slots-requires
+executable-slots-requires c κs = search needs
+
+unknown-requires-2 : tie.Need-unknown-requires-2
+unknown-requires-2 c κs = search needs
+
+returns-2 : tie.Need-returns-2
+returns-2 c = search (needs, told-unknown)
+
+executable-requires : tie.Need-executable-requires
+executable-requires c κs = search needs
+
+explain-on-requires : tie.Need-explain-on-requires
+explain-on-requires c κs = search needs
+
+same-length : tie.Need-same-length
+same-length c = search needs
+
+returns-3 : tie.Need-returns-3
+returns-3 c = search (needs, told-known)
+
+pub explain-accepted-spec : {M : Type 1} → statement M
+explain-accepted-spec =
+    tie.close
+    (tie.spec
+    unknown-requires
+    returns
+    executable-slot-requires
+    executable-slots-requires
+    unknown-requires-2
+    returns-2
+    executable-requires
+    explain-on-requires
+    same-length
+    returns-3)

@@ -1,0 +1,46 @@
+use native.Mathlib.Omega.{arith}
+use Prim.Native.Nat.{ℕ, _+_}
+use mathlib.Core.List.{List, [], _∷_}
+use mathlib.Core.Path.{ap, _∙_}
+use Rattle.octets.specs.Octets.{put}
+use Rattle.records.proofs.Puts.{put-next}
+use Rattle.stream.specs.Decimal.{decimal}
+use borrow.Author.Needs.{needs}
+use Rattle.stream.proofs.put_column.Statement.{statement}
+use Rattle.stream.proofs.put_column.Tie as tie
+
+slice-aggregate-put-text : tie.Need-slice-aggregate-put-text
+slice-aggregate-put-text c = search needs
+
+put-text-requires : tie.Need-put-text-requires
+put-text-requires c κs = search needs
+
+add-put-number : tie.Need-add-put-number
+add-put-number c = search needs
+
+put-number-requires : tie.Need-put-number-requires
+put-number-requires c κs = search needs
+
+same-length : tie.Need-same-length
+same-length c = search needs
+
+returns : tie.Need-returns
+returns c =
+    let a = c .before .before .before .before .before .before .before .before .before .before .args in
+    let number = c .before .before .put-number .ensures in (
+      number .0
+          ∙ ap (λ (l : List ℕ). put l (a .at + 1) (decimal (a .n))) (c .before .before .before .before .before .before .put-text .ensures)
+          ∙ put-next (a .out .now) (a .at) (32 ∷ []) (decimal (a .n)) (omega arith),
+      omega (arith, number .1),
+    )
+
+pub put-column-spec : {M : Type 1} → statement M
+put-column-spec =
+    tie.close
+    (tie.spec
+    slice-aggregate-put-text
+    put-text-requires
+    add-put-number
+    put-number-requires
+    same-length
+    returns)

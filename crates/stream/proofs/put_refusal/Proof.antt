@@ -1,0 +1,65 @@
+use native.Mathlib.Omega.{arith}
+use mathlib.Core.Path.{refl}
+use Rattle.stream.proofs.Lines.{column-ends, refusal-put}
+use borrow.Author.Needs.{needs}
+use Rattle.stream.proofs.put_refusal.Statement.{statement}
+use Rattle.stream.proofs.put_refusal.Tie as tie
+
+-- the state behind the rule's column, from that behind the offset's
+abbrev ruled : tie.After-put-column2 → tie.After-put-column
+ruled c = c .before .before .before .before
+
+slice-aggregate-put-text : tie.Need-slice-aggregate-put-text
+slice-aggregate-put-text c = search needs
+
+put-text-requires : tie.Need-put-text-requires
+put-text-requires c κs = search needs
+
+put-column-requires : tie.Need-put-column-requires
+put-column-requires c κs = search needs
+
+put-column-requires-2 : tie.Need-put-column-requires-2
+put-column-requires-2 c κs =
+    let to-rule = c .before .before .before in
+    omega (arith, column-ends _ _ (to-rule .put-column .ensures .1))
+
+slice-aggregate-put-text-2 : tie.Need-slice-aggregate-put-text-2
+slice-aggregate-put-text-2 c = search needs
+
+put-text-requires-2 : tie.Need-put-text-requires-2
+put-text-requires-2 c κs =
+    let to-offset = c .before .before .before .before in
+    let to-rule = ruled to-offset in
+    omega (arith, column-ends _ _ (to-rule .put-column .ensures .1), column-ends _ _ (to-offset .put-column2 .ensures .1))
+
+add-result : tie.Need-add-result
+add-result c =
+    let to-offset = c .before .before .before .before .before .before .before in
+    let to-rule = ruled to-offset in
+    omega (arith, column-ends _ _ (to-rule .put-column .ensures .1), column-ends _ _ (to-offset .put-column2 .ensures .1))
+
+same-length : tie.Need-same-length
+same-length c = search needs
+
+returns : tie.Need-returns
+returns c =
+    let to-offset = c .before .before .before .before .before .before .before in
+    let to-rule = ruled to-offset in
+    let to-one = to-rule .before .before .before .before in
+    let a = to-one .before .before .before .before .args in
+    refusal-put (a .out .now) (a .rule) (a .offset) (to-one .put-text .ensures, refl) (to-rule .put-column .ensures) (to-offset .put-column2 .ensures)
+    (c .before .before .put-text2 .ensures, refl)
+
+pub put-refusal-spec : {M : Type 1} → statement M
+put-refusal-spec =
+    tie.close
+    (tie.spec
+    slice-aggregate-put-text
+    put-text-requires
+    put-column-requires
+    put-column-requires-2
+    slice-aggregate-put-text-2
+    put-text-requires-2
+    add-result
+    same-length
+    returns)

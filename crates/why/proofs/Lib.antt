@@ -1,0 +1,4 @@
+pub mod Sentences
+pub mod Pages
+pub mod Answers
+pub mod Numbers

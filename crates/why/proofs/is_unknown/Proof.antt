@@ -1,0 +1,22 @@
+use Prim.Native.Nat.{ℕ}
+use mathlib.Core.Path.{ap}
+use lib.Dec.{eqb}
+use Rattle.why.proofs.Answers.{code-told}
+use borrow.Author.Needs.{needs}
+use Rattle.why.proofs.is_unknown.Statement.{statement}
+use Rattle.why.proofs.is_unknown.Tie as tie
+
+slice-aggregate-explain : tie.Need-slice-aggregate-explain
+slice-aggregate-explain c = search needs
+
+explain-requires : tie.Need-explain-requires
+explain-requires c κs = search needs
+
+returns : tie.Need-returns
+returns c =
+    let told = c .before .before in
+    let a = told .before .before .before .args in
+    ap (λ (n : ℕ). eqb n 3) (code-told (a .s .now) (a .id) (told .explain .ensures .answer))
+
+pub is-unknown-spec : {M : Type 1} → statement M
+is-unknown-spec = tie.close (tie.spec slice-aggregate-explain explain-requires returns)
