@@ -5,12 +5,12 @@ use mathlib.Core.List.{List}
 use mathlib.Core.Logic.{_⊎_, inl, inr}
 use mathlib.Core.Path.{_≡_, refl, subst}
 use native.Mathlib.Omega.{arith}
-use lib.Dec.{T, eqb}
+use lib.Dec.{T, eqb, eqb→eq}
 use Rattle.records.specs.Phone.{Trust}
 use Rattle.records.specs.declared.Certificate.{Certificate}
 use Rattle.rules.specs.Words.{any}
 use Rattle.rules.specs.Chains.{trusted-root, link, serves, good}
-use Rattle.rules.proofs.Tests.{tests, or-cases, is, isnt, by-test}
+use Rattle.rules.proofs.Tests.{tests, or-cases, neqb→ne, by-test}
 use Rattle.rules.proofs.Lists.{any-out, any-in}
 
 pub serves-more : (f g : Certificate → Bool) → ((c : Certificate) → T (f c) → T (g c)) → (d k : ℕ) (l : List Certificate) → T (any (serves f d k) l) → T (any (serves g d k) l)
@@ -41,5 +41,5 @@ pub good-up : (n m : ℕ) (t : Trust) (c : Certificate) → m ≤ n → T (good 
 unfolding good
 good-up zero m t c h g = let e : m ≡ 0 = omega arith in subst (λ k. T (good k t c)) e g
 good-up (suc n) m t c h g =
-    by-test (eqb m (suc n)) (λ b. subst (λ k. T (good k t c)) (is m (suc n) b) g)
-    (λ b. good-more n t c (good-up n m t c (omega (arith, isnt m (suc n) b)) g))
+    by-test (eqb m (suc n)) (λ b. subst (λ k. T (good k t c)) (eqb→eq m (suc n) b) g)
+    (λ b. good-more n t c (good-up n m t c (omega (arith, neqb→ne m (suc n) b)) g))

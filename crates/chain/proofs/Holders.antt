@@ -6,14 +6,14 @@ use mathlib.Core.Logic.{_≢_, _⊎_, inl, inr}
 use mathlib.Core.Path.{_≡_, refl, sym, ap, _∙_}
 use native.Mathlib.Omega.{arith}
 use borrow.Author.Tests.{eq-eqb, ne-eqb}
-use lib.Dec.{T, eqb}
+use lib.Dec.{T, eqb, eqb→eq}
 use lib.ListN.{length, drop}
 use Rattle.records.specs.Phone.{Trust, no-certificate}
 use Rattle.records.specs.declared.Certificate.{Certificate}
 use Rattle.rules.specs.declared.Chained.{Chained}
 use Rattle.rules.specs.Words.{any, find, least}
 use Rattle.rules.specs.Chains.{serves, good, most-links, within, chains-to, chain-domain, links, chain-of}
-use Rattle.rules.proofs.Tests.{tests, is, si, isnt}
+use Rattle.rules.proofs.Tests.{tests, eq→eqb, neqb→ne}
 use Rattle.rules.proofs.Lists.{any-out, any-in, find-in}
 use Rattle.rules.proofs.Loops.{find-here, find-next, find-end}
 use Rattle.rules.proofs.Least.{least-small, least-passes, least-least}
@@ -38,7 +38,7 @@ module _ (t : Trust) (k : ℕ) where
   held d h =
       let s = any-out (serves (good most-links t) d k) (t .certificates) (search tests) in
       let a : T (serves (good most-links t) d k (s .it)) = s .passes in
-      record { it = s .it; mem = s .mem; key = is (s .it .key) k (search tests); domain = is (s .it .domain) d (search tests); signed = isnt k 0 (search tests) }
+      record { it = s .it; mem = s .mem; key = eqb→eq (s .it .key) k (search tests); domain = eqb→eq (s .it .domain) d (search tests); signed = neqb→ne k 0 (search tests) }
 
   -- a link count says that there is a chain, and a chain has a link count
   within-up : (n m d : ℕ) → m ≤ n → T (within m t k d) → T (within n t k d)
@@ -70,9 +70,9 @@ module _ (t : Trust) (k : ℕ) where
     unfolding holder
     holder-domain d h =
         let c = h .it in
-        let g : T (any (λ x. eqb (x .key) k) (t .certificates)) = any-in (λ x. eqb (x .key) k) (h .mem) (si (c .key) k (h .key)) in
+        let g : T (any (λ x. eqb (x .key) k) (t .certificates)) = any-in (λ x. eqb (x .key) k) (h .mem) (eq→eqb (c .key) k (h .key)) in
         let f = find-in (λ x. eqb (x .key) k) no-certificate (t .certificates) g in
-        let e : holder t k .key ≡ k = is (holder t k .key) k (f .1) in
+        let e : holder t k .key ≡ k = eqb→eq (holder t k .key) k (f .1) in
         let nz : holder t k .key ≢ 0 = λ z. h .signed (sym e ∙ z) in
         let o : holder t k .domain ≡ c .domain = keyed .one-domain (holder t k) c (f .0) (h .mem) nz (e ∙ sym (h .key)) in
         let r = keyed .domains c (h .mem) (λ z. h .signed (sym (h .key) ∙ z)) in

@@ -8,7 +8,7 @@ use borrow.Author.Tests.{ne-eqb}
 use native.Mathlib.Omega.{arith}
 use lib.Bits.{bitOr, or-zero-l, or-zero-r}
 use lib.Count.{trailingZeros}
-use lib.Dec.{T, eqb}
+use lib.Dec.{T, eqb, eqb→eq}
 use lib.ListN.{length, drop}
 use lib.Pow.{pow-pos}
 use Rattle.records.specs.Phone.{Trust, no-certificate}
@@ -19,7 +19,7 @@ use Rattle.bits.proofs.Laws.{or-set}
 use Rattle.bits.proofs.Words.{any-nothing, word-lt, word-none, word-same, word-or, Built, built-none, built-skips, built-takes, built-all}
 use Rattle.rules.specs.Words.{any, least}
 use Rattle.rules.specs.Chains.{trusted-root, link, serves, good, most-links, within, links}
-use Rattle.rules.proofs.Tests.{tests, or-cases, is, si, isnt, same, eqb-turn}
+use Rattle.rules.proofs.Tests.{tests, or-cases, eq→eqb, neqb→ne, same, eqb-turn}
 use Rattle.rules.proofs.Lists.{any-out, any-in}
 use Rattle.rules.proofs.Least.{least-small}
 use Rattle.rules.proofs.Loops.{any-rest, any-end}
@@ -267,7 +267,7 @@ module _ (t : Trust) (d : ℕ) where
           let u : T (linked t d (s .asked) (o .it) && eqb (o .it .key) (c .verifying)) = o .passes in
           let k : T (eqb (o .it .key) (c .verifying)) = search tests in
           let a : T (s .asked (o .it .key)) = search tests in
-          subst (λ v. T (s .asked v)) (is (o .it .key) (c .verifying) k) a
+          subst (λ v. T (s .asked v)) (eqb→eq (o .it .key) (c .verifying) k) a
 
       pub up-known : true ≡ any-of w (λ x. eqb (x .key) (c .verifying)) (t .certificates) → Raising rest w
       up-known y =
@@ -281,7 +281,7 @@ module _ (t : Trust) (d : ℕ) where
         where
           again : (v : ℕ) → eqb (c .verifying) v ≡ true → s .asked v ≡ true
           again v x =
-              let a = subst (λ k. T (s .asked k)) (is (c .verifying) v (subst T (sym x) tt)) (was-asked y) in
+              let a = subst (λ k. T (s .asked k)) (eqb→eq (c .verifying) v (subst T (sym x) tt)) (was-asked y) in
               same (s .asked v) true (λ _. tt) (λ _. a)
 
       module _ {more : Level} (m : Level-of t d (λ v. eqb v (c .verifying)) w more) where
@@ -291,7 +291,7 @@ module _ (t : Trust) (d : ℕ) where
             wanted : (v : ℕ) → T (eqb v (c .verifying)) → T (verifiers t level v)
             wanted v x =
                 subst T (next-key v)
-                (go (s .asked v) (eqb (c .verifying) v) (si (c .verifying) v (sym (is v (c .verifying) x))))
+                (go (s .asked v) (eqb (c .verifying) v) (eq→eqb (c .verifying) v (sym (eqb→eq v (c .verifying) x))))
               where
                 go : (a b : Bool) → T b → T (a || (b || verifiers t rest v))
                 go true b x = tt
@@ -370,8 +370,8 @@ module _ (t : Trust) (d : ℕ) where
         let o : T (eqb (e .domain) (c .domain)) = search tests in
         let k : T (eqb (e .key) (c .verifying)) = search tests in
         let g : T (good r t e) = search tests in
-        let n : T (eqb (e .domain) d) = si (e .domain) d (is (e .domain) (c .domain) o ∙ is (c .domain) d x) in
-        let y : T (eqb (c .verifying) (e .key)) = si (c .verifying) (e .key) (sym (is (e .key) (c .verifying) k)) in
+        let n : T (eqb (e .domain) d) = eq→eqb (e .domain) d (eqb→eq (e .domain) (c .domain) o ∙ eqb→eq (c .domain) d x) in
+        let y : T (eqb (c .verifying) (e .key)) = eq→eqb (c .verifying) (e .key) (sym (eqb→eq (e .key) (c .verifying) k)) in
         let w : T (led p (e .key) c) = search tests in
         let z : T (above p (e .key)) = any-in (led p (e .key)) m w in
         any-in (reached r (above p)) (s .mem) (search tests)
@@ -407,8 +407,8 @@ module _ (t : Trust) (d : ℕ) where
         let z : T (led p (e .key) c) = q .passes in
         let n : T (eqb (c .domain) d) = search tests in
         let k : T (eqb (c .verifying) (e .key)) = search tests in
-        let i : T (eqb (e .domain) (c .domain)) = si (e .domain) (c .domain) (is (e .domain) d o ∙ sym (is (c .domain) d n)) in
-        let j : T (eqb (e .key) (c .verifying)) = si (e .key) (c .verifying) (sym (is (c .verifying) (e .key) k)) in
+        let i : T (eqb (e .domain) (c .domain)) = eq→eqb (e .domain) (c .domain) (eqb→eq (e .domain) d o ∙ sym (eqb→eq (c .domain) d n)) in
+        let j : T (eqb (e .key) (c .verifying)) = eq→eqb (e .key) (c .verifying) (sym (eqb→eq (c .verifying) (e .key) k)) in
         let w = any-in (serves (good r t) (c .domain) (c .verifying)) (s .mem) (search tests) in
         any-in (reached (suc r) p) (q .mem) (search tests)
 
@@ -479,7 +479,7 @@ links-unsigned t k d h = go (eqb k 0) (eqb d 0) h
     go false false h = absurd (false≢true h)
 
 pub both-signed : (k d : ℕ) → (eqb k 0 || eqb d 0) ≡ false → (k ≢ 0) × (d ≢ 0)
-both-signed k d h = go (eqb k 0) (eqb d 0) (λ x. isnt k 0 x) (λ x. isnt d 0 x) h
+both-signed k d h = go (eqb k 0) (eqb d 0) (λ x. neqb→ne k 0 x) (λ x. neqb→ne d 0 x) h
   where
     go : (x y : Bool) → (T (not x) → k ≢ 0) → (T (not y) → d ≢ 0) → (x || y) ≡ false → (k ≢ 0) × (d ≢ 0)
     go true y f g h = absurd (false≢true (sym h))

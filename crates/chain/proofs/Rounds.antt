@@ -6,7 +6,7 @@ use mathlib.Core.Path.{_≡_, refl, sym, ap, ap₂, _∙_, subst}
 use native.Mathlib.Omega.{arith}
 use borrow.Author.Tests.{eq-eqb, ne-eqb}
 use lib.Bits.{bitOr, bitXor}
-use lib.Dec.{T, eqb}
+use lib.Dec.{T, eqb, eqb→eq}
 use lib.ListN.{length}
 use lib.Pow.{pow-mono}
 use Rattle.records.specs.Phone.{Trust}
@@ -16,7 +16,6 @@ use Rattle.bits.specs.Words.{word, any-of, keep}
 use Rattle.bits.proofs.Words.{any-nothing, keep-lt, keep-none, word-lt, word-none, word-same, word-or, word-less, keep-word}
 use Rattle.rules.specs.Words.{any}
 use Rattle.rules.specs.Chains.{trusted-root, link, serves, good, within, chains-to}
-use Rattle.rules.proofs.Tests.{is}
 use Rattle.chain.specs.declared.Sorted.{Sorted}
 use Rattle.chain.specs.Keys.{chained-in, within-domain, Sorted-as, new-after, left-after, verified-by, Round-of, good-slots}
 use Rattle.chain.proofs.Good.{good-more}
@@ -158,7 +157,7 @@ module _ (t : Trust) (d : ℕ) where
     module _ (c : Certificate) where
       -- the same of the record's own domain, and nothing of another
       of-domain : (f g : Bool) → (c .domain ≡ d → f ≡ g) → (f && eqb (c .domain) d) ≡ (g && eqb (c .domain) d)
-      of-domain f g h = go (eqb (c .domain) d) (λ x. is (c .domain) d x)
+      of-domain f g h = go (eqb (c .domain) d) (λ x. eqb→eq (c .domain) d x)
         where
           go : (b : Bool) → (T b → c .domain ≡ d) → (f && b) ≡ (g && b)
           go true k = ap (λ x. x && true) (h (k tt))

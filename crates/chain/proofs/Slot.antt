@@ -9,7 +9,7 @@ use Rattle.records.specs.Phone.{Trust}
 use Rattle.records.specs.declared.Certificate.{Certificate}
 use Rattle.rules.specs.Words.{any, least}
 use Rattle.rules.specs.Chains.{trusted-root, link, serves, good}
-use Rattle.rules.proofs.Tests.{and-r, isnt, tnsi, same}
+use Rattle.rules.proofs.Tests.{and-r, neqb→ne, ne→neqb, same}
 use Rattle.rules.proofs.Lists.{any-out}
 use Rattle.rules.proofs.Least.{least-small, least-passes, least-least}
 use Rattle.chain.specs.Keys.{reach}
@@ -18,8 +18,8 @@ use Rattle.chain.proofs.Good.{serves-more, good-up}
 -- a test that more passes the further one goes
 least-tells : (f : ℕ → Bool) (n : ℕ) → ((m : ℕ) → m ≤ n → T (f m) → T (f n)) → (T (f 0) → ⊥) → not (eqb (least n f) 0) ≡ f n
 least-tells f n up none =
-    same (not (eqb (least n f) 0)) (f n) (λ h. up (least n f) (least-small f n) (least-passes f n (isnt (least n f) 0 h)))
-    (λ h. tnsi (least n f) 0 (least-least f n n (some n h) (omega arith) h .0))
+    same (not (eqb (least n f) 0)) (f n) (λ h. up (least n f) (least-small f n) (least-passes f n (neqb→ne (least n f) 0 h)))
+    (λ h. ne→neqb (least n f) 0 (least-least f n n (some n h) (omega arith) h .0))
   where
     some : (k : ℕ) → T (f k) → 1 ≤ k
     some zero h = absurd (none h)

@@ -5,14 +5,14 @@ use mathlib.Core.Logic.{_≢_}
 use mathlib.Core.Path.{_≡_, refl, sym, ap, ap₂, _∙_}
 use native.Mathlib.Omega.{arith}
 use borrow.Author.Tests.{eq-eqb, ne-eqb}
-use lib.Dec.{T, eqb}
+use lib.Dec.{T, eqb, eqb→eq}
 use lib.ListN.{length}
 use Rattle.records.specs.Phone.{Seen, Trust, no-certificate}
 use Rattle.records.specs.declared.Certificate.{Certificate}
 use Rattle.bits.specs.Bits.{set-bit}
 use Rattle.bits.proofs.Words.{Built, built-none, built-skips, built-takes, built-all}
 use Rattle.rules.specs.Chains.{valid-root, trusted-root, link}
-use Rattle.rules.proofs.Tests.{tests, is}
+use Rattle.rules.proofs.Tests.{tests}
 use Rattle.chain.specs.Keys.{slot, within-domain, Sorted-as}
 
 -- a link is issued, and no root
@@ -20,7 +20,7 @@ pub unrooted : (s : Seen) (c : Certificate) → T (link s c) → trusted-root s 
 unfolding link trusted-root valid-root
 unrooted s c h =
     let a : T (eqb (c .kind) 1) = search tests in
-    let e = is (c .kind) 1 a in
+    let e = eqb→eq (c .kind) 1 a in
     rw (ne-eqb (c .kind) 0 (λ z. omega (arith, e, z)))
 
 unlinked : (s : Seen) (c : Certificate) → trusted-root s c ≡ true → link s c ≡ false

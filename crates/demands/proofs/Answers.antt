@@ -5,7 +5,7 @@ use mathlib.Core.List.{List}
 use mathlib.Core.Logic.{_≢_, _⊎_, inl, inr, _↔_}
 use mathlib.Core.Path.{_≡_, refl, sym, ap, ap₂, _∙_}
 use native.Mathlib.Omega.{arith}
-use lib.Dec.{T, T-not, eqb}
+use lib.Dec.{T, T-not, eqb, eqb→eq}
 use Rattle.records.specs.Phone.{Trust, Phone, decode}
 use Rattle.records.specs.declared.Event.{Event}
 use Rattle.records.proofs.RoundTrip.{decode-encode}
@@ -15,7 +15,7 @@ use Rattle.rules.specs.Codes.{executable-named, code-of, code}
 use Rattle.rules.specs.Effects.{changed}
 use Rattle.rules.specs.declared.Answer.{Answer}
 use Rattle.rules.specs.Step.{refused, refused-at, refusal, done, step}
-use Rattle.rules.proofs.Tests.{is, si, or-i, or-j, or-cases}
+use Rattle.rules.proofs.Tests.{eq→eqb, or-i, or-j, or-cases}
 use Rattle.rules.proofs.Accepted.{Accepted}
 use Rattle.rules.proofs.Accepts.{accepted-out}
 use Rattle.demands.specs.Runs.{event-of, key-named, phone-after}
@@ -60,8 +60,8 @@ done-quiet e p v r =
     (λ t. absurd (go (or-cases (eqb (e .kind) 12) (eqb (e .kind) 15) t))) (λ t. (refl, refl))
   where
     go : T (eqb (e .kind) 12) ⊎ T (eqb (e .kind) 15) → ⊥
-    go (inl t) = v (is (e .kind) 12 t)
-    go (inr t) = r (is (e .kind) 15 t)
+    go (inl t) = v (eqb→eq (e .kind) 12 t)
+    go (inr t) = r (eqb→eq (e .kind) 15 t)
 
 done-none : (e : Event) (p : Phone) → done e p .domain ≡ 0 → done e p .links ≡ 0
 done-none e p = done-cases (λ a. a .domain ≡ 0 → a .links ≡ 0) e p (λ t z. none-links (p .trust) _ _ z) (λ t z. refl)
@@ -70,8 +70,8 @@ done-told : (e : Event) (p : Phone) → T (telling e) → done e p ≡ told-name
 done-told e p t = done-cases (λ a. a ≡ told-named p (e .id)) e p (λ s. refl) (λ n. absurd (T-not (telling e) n t))
 
 tells : (e : Event) → (e .kind ≡ 12) ⊎ (e .kind ≡ 15) → T (telling e)
-tells e (inl i) = or-i (eqb (e .kind) 12) (eqb (e .kind) 15) (si (e .kind) 12 i)
-tells e (inr i) = or-j (eqb (e .kind) 12) (eqb (e .kind) 15) (si (e .kind) 15 i)
+tells e (inl i) = or-i (eqb (e .kind) 12) (eqb (e .kind) 15) (eq→eqb (e .kind) 12 i)
+tells e (inr i) = or-j (eqb (e .kind) 12) (eqb (e .kind) 15) (eq→eqb (e .kind) 15 i)
 
 -- ---- in bytes
 
@@ -125,7 +125,7 @@ module _ (l v : List ℕ) where
     ok = accepted-out l (w .image) .1
 
     z : T (eqb (code-of (decode l) (event-of v)) 0)
-    z = si (code-of (decode l) (event-of v)) 0 (w .code)
+    z = eq→eqb (code-of (decode l) (event-of v)) 0 (w .code)
 
     -- what a verify and a request are told, and the trust after them
     module _ (k : (event-of v .kind ≡ 12) ⊎ (event-of v .kind ≡ 15)) where

@@ -5,7 +5,7 @@ use mathlib.Core.List.{List, [], _∷_, map}
 use mathlib.Core.Logic.{_≢_, _⊎_, inl, inr, _↔_}
 use mathlib.Core.Path.{_≡_, refl, subst, sym, ap, _∙_}
 use borrow.Author.Tests.{eq-eqb, ne-eqb}
-use lib.Dec.{T, eqb}
+use lib.Dec.{T, eqb, eqb→eq}
 use lib.ListN.{length}
 use Rattle.octets.proofs.Laws.{Bytes}
 use Rattle.records.specs.Sizes.{event-size}
@@ -20,7 +20,7 @@ use Rattle.rules.specs.ImageRules.{accepted}
 use Rattle.rules.specs.Codes.{rows, refusals, code-of, code}
 use Rattle.rules.specs.Effects.{changed}
 use Rattle.rules.specs.Step.{refused, refused-at, refusal, done, Outcome, step, run}
-use Rattle.rules.proofs.Tests.{and-l, and-r, by-test, is, si, isnt, not-elim, first-out}
+use Rattle.rules.proofs.Tests.{and-l, and-r, by-test, eq→eqb, neqb→ne, not-elim, first-out}
 use Rattle.rules.proofs.Accepts.{T-true, accepted-out, accepted-in}
 use Rattle.rules.proofs.Marks.{Marked-by, changed-marks}
 use Rattle.demands.proofs.After.{after, after-all}
@@ -44,9 +44,9 @@ pub record Whole (l v : List ℕ) : Type 0 where
 pub code-whole-out : (l v : List ℕ) → code l v ≡ 0 → Whole l v
 unfolding code
 code-whole-out l v h =
-    let w = first-out (rows l v) tt (si (code l v) 0 h) in
+    let w = first-out (rows l v) tt (eq→eqb (code l v) 0 h) in
     let a = T-true (accepted l) (not-elim (accepted l) (w .0)) in
-    let n = is (length v) event-size (not-elim (eqb (length v) event-size) (w .1 .0)) in
+    let n = eqb→eq (length v) event-size (not-elim (eqb (length v) event-size) (w .1 .0)) in
     record { image = a; event = n; code = sym (code-whole l v a n) ∙ h }
 
 -- ---- one event
@@ -69,8 +69,8 @@ pub refusal-cases : (P : Answer → Type 0) (l : List ℕ) (c : ℕ) → (c ≡ 
 unfolding refusal
 refusal-cases P l c f g =
     by-test (eqb c 1)
-    (λ t. rw (eq-eqb c 1 (is c 1 t)) (f (is c 1 t)))
-    (λ t. rw (ne-eqb c 1 (isnt c 1 t)) (g (isnt c 1 t)))
+    (λ t. rw (eq-eqb c 1 (eqb→eq c 1 t)) (f (eqb→eq c 1 t)))
+    (λ t. rw (ne-eqb c 1 (neqb→ne c 1 t)) (g (neqb→ne c 1 t)))
 
 -- no code of a list is k
 abbrev lacks : ℕ → List Check → Bool
@@ -79,8 +79,8 @@ lacks k ((b ⇒ n) ∷ l) = not (eqb n k) && lacks k l
 
 lacked : (k : ℕ) (l : List Check) → T (lacks k l) → first l ≢ k
 unfolding first
-lacked k [] h = isnt 0 k h
-lacked k ((true ⇒ n) ∷ l) h = isnt n k (and-l (not (eqb n k)) (lacks k l) h)
+lacked k [] h = neqb→ne 0 k h
+lacked k ((true ⇒ n) ∷ l) h = neqb→ne n k (and-l (not (eqb n k)) (lacks k l) h)
 lacked k ((false ⇒ n) ∷ l) h = lacked k l (and-r (not (eqb n k)) (lacks k l) h)
 
 -- code 1 is the image's alone
@@ -104,8 +104,8 @@ pub step-cases : (P : Outcome → Type 0) (l v : List ℕ) → (code l v ≡ 0 �
     → (code l v ≢ 0 → P (record { answer = refusal l (code l v); image = l })) → P (step l v)
 step-cases P l v d r =
     by-test (eqb (code l v) 0)
-    (λ t. let z = is (code l v) 0 t in subst P (sym (step-done l v z)) (d z))
-    (λ t. let z = isnt (code l v) 0 t in subst P (sym (step-refused l v z)) (r z))
+    (λ t. let z = eqb→eq (code l v) 0 t in subst P (sym (step-done l v z)) (d z))
+    (λ t. let z = neqb→ne (code l v) 0 t in subst P (sym (step-refused l v z)) (r z))
 
 pub length-step : (l v : List ℕ) → length (step l v .image) ≡ length l
 length-step l v = step-cases (λ o. length (o .image) ≡ length l) l v go (λ z. refl)
@@ -130,8 +130,8 @@ accepted-step l v a = step-cases (λ o. accepted (o .image) ≡ true) l v (λ z.
         let ok = accepted-out l a in
         let f = fitting l (ok .0) in
         accepted-in (encode (changed e p))
-        (framed-fitting (changed e p) (record { sized = sized-shape (shape-changed e p) (f .sized); mode = mode-changed e p (f .mode) (si (code-of p e) 0 z) }))
-        (rw (decode-encode (changed e p)) (accepted-changed p e (ok .1) (si (code-of p e) 0 z)))
+        (framed-fitting (changed e p) (record { sized = sized-shape (shape-changed e p) (f .sized); mode = mode-changed e p (f .mode) (eq→eqb (code-of p e) 0 z) }))
+        (rw (decode-encode (changed e p)) (accepted-changed p e (ok .1) (eq→eqb (code-of p e) 0 z)))
 
 -- the phone after an event of 24 bytes
 pub decode-step : (l v : List ℕ) → accepted l ≡ true → length v ≡ event-size → decode (step l v .image) ≡ after (event-read v 0) (decode l)
@@ -208,8 +208,8 @@ decode-run [] l a = refl
 decode-run (v ∷ vs) l a =
     decode-run vs (step l v .image) (accepted-step l v a)
     ∙ by-test (eqb (length v) event-size)
-    (λ t. let n = is (length v) event-size t in rw (eq-eqb (length v) event-size n, decode-step l v a n))
-    (λ t. let n = isnt (length v) event-size t in rw (ne-eqb (length v) event-size n, step-other l v n))
+    (λ t. let n = eqb→eq (length v) event-size t in rw (eq-eqb (length v) event-size n, decode-step l v a n))
+    (λ t. let n = neqb→ne (length v) event-size t in rw (ne-eqb (length v) event-size n, step-other l v n))
 
 -- events written as bytes are read as they were
 pub whole-bytes : {A : Type 0} (f : A → Event) (l : List A) → whole (map (λ x. event-bytes (f x)) l) ≡ map f l

@@ -5,7 +5,7 @@ use mathlib.Core.List.{map, List·Memᴰ}
 use mathlib.Core.Logic.{_≢_}
 use mathlib.Core.Path.{_≡_, subst, sym, _∙_}
 use native.Mathlib.Omega.{arith}
-use lib.Dec.{T, eqb, not-T}
+use lib.Dec.{T, eqb, not-T, eqb→eq}
 use Rattle.records.specs.Phone.{Phone}
 use Rattle.records.specs.declared.Certificate.{Certificate}
 use Rattle.records.specs.declared.Event.{Event}
@@ -15,7 +15,7 @@ use Rattle.rules.specs.Codes.{has-id, certificate-named, certificate-known, sub
 use Rattle.rules.specs.Codes.{id-unknown, card-unknown, id-taken, key-elsewhere, install-of-other, mark-of-other, no-such-root, another-valid}
 use Rattle.rules.specs.Effects.{tick, card-in, card-out, power-up, install-certificate, delete-certificate, after-marking, mark-valid, mark-invalid, message}
 use Rattle.rules.specs.Effects.{install-executable, delete-executable, verify, give, withdraw, request, effect}
-use Rattle.rules.proofs.Tests.{tests, is, si, isnt, nand, not-elim}
+use Rattle.rules.proofs.Tests.{tests, eq→eqb, neqb→ne, nand, not-elim}
 use Rattle.rules.proofs.Lists.{none-out}
 use Rattle.rules.proofs.Fits.{occupied-out}
 use Rattle.rules.proofs.Roots.{valid-any-time, valid-kind, valid-domain, valid-mark}
@@ -39,7 +39,7 @@ new-unmarked m t d e l v =
 
 -- a refusal that two numbers differ did not apply
 unless-is : (a : Bool) (x y : ℕ) → T (not (a && not (eqb x y))) → T a → x ≡ y
-unless-is a x y h k = is x y (not-elim (eqb x y) (nand a (not (eqb x y)) h k))
+unless-is a x y h k = eqb→eq x y (not-elim (eqb x y) (nand a (not (eqb x y)) h k))
 
 -- ---- each kind
 
@@ -58,7 +58,7 @@ module _ (p : Phone) (ok : Kept (p .cards) (p .trust)) where
 
   kept-power-up : (e : Event) → T (known-place (p .cards) (e .second)) → Kept (p .cards) (power-up e p .trust)
   unfolding power-up
-  kept-power-up e k = go (eqb (e .second) 0) (λ t. isnt (e .second) 0 t)
+  kept-power-up e k = go (eqb (e .second) 0) (λ t. neqb→ne (e .second) 0 t)
     where
       go : (b : Bool) → (T (not b) → e .second ≢ 0) → Kept (p .cards) (cond b (card-out e p) (card-in e p) .trust)
       go true z = kept-card-out e
@@ -70,8 +70,8 @@ module _ (p : Phone) (ok : Kept (p .cards) (p .trust)) where
       record {
         fits = occupied-out (new-certificate (p .mode) (with-kind 5 e)) (t .formed);
         place = not-elim (known-place (p .cards) (e .second)) (t .in-table);
-        fresh = λ x m z. none-out (has-id (e .id)) (p .trust .certificates) (let h = t .fresh in search tests) x m (si (x .id) (e .id) z);
-        own-key = λ x m z. unless-is (eqb (x .key) (e .key)) (x .domain) (e .fourth) (none-at x m t) (si (x .key) (e .key) z);
+        fresh = λ x m z. none-out (has-id (e .id)) (p .trust .certificates) (let h = t .fresh in search tests) x m (eq→eqb (x .id) (e .id) z);
+        own-key = λ x m z. unless-is (eqb (x .key) (e .key)) (x .domain) (e .fourth) (none-at x m t) (eq→eqb (x .key) (e .key) z);
         owner = λ a d z.
             unless-is (operator-root (new-certificate (p .mode) (with-kind 5 e)) && not (eqb (e .second) 0)) (e .owner) (operator-of (p .cards) (e .second))
             (t .install-own) (search tests);

@@ -5,7 +5,7 @@ use mathlib.Core.List.{List, [], _∷_, map}
 use mathlib.Core.Logic.{_≢_, _⊎_, inl, inr}
 use mathlib.Core.Path.{_≡_, subst, sym, ap, _∙_}
 use borrow.Author.Tests.{eq-eqb, ne-eqb}
-use lib.Dec.{T, eqb}
+use lib.Dec.{T, eqb, eqb→eq}
 use lib.ListN.{length}
 use Rattle.records.specs.Sizes.{event-size}
 use Rattle.records.specs.Layout.{event-bytes}
@@ -16,7 +16,7 @@ use Rattle.rules.specs.ImageRules.{accepted}
 use Rattle.rules.specs.Codes.{code-of}
 use Rattle.rules.specs.Step.{step, run}
 use Rattle.rules.specs.Demands.{request-event, verify-event, grants, withdrawing, giving}
-use Rattle.rules.proofs.Tests.{is, isnt, or-cases, by-test}
+use Rattle.rules.proofs.Tests.{neqb→ne, or-cases, by-test}
 use Rattle.rules.proofs.Accepted.{Accepted}
 use Rattle.rules.proofs.Accepts.{accepted-out}
 use Rattle.demands.specs.Runs.{event-of, is-request, Each-in-turn, Withdrawing-run, Giving-run, verified as image-verified}
@@ -48,7 +48,7 @@ by-meeting : (P : Phone → Type 0) (f : Phone → Event → Bool) (p : Phone) �
 by-meeting P f p ok e h passes stays = go (or-cases (f p e) (is-request e || not (eqb (code-of p e) 0)) h)
   where
     still : T (is-request e) ⊎ T (not (eqb (code-of p e) 0)) → after e p ≡ p
-    still (inl r) = request-still p ok e (is (e .kind) 15 r)
+    still (inl r) = request-still p ok e (eqb→eq (e .kind) 15 r)
     still (inr n) = refused-still p e n
 
     go : T (f p e) ⊎ T (is-request e || not (eqb (code-of p e) 0)) → P (after e p)
@@ -117,7 +117,7 @@ each-met f (v ∷ vs) l ok h = go (each-met f vs (step l v .image) (accepted-ste
     passed n r = rw (ne-eqb (length v) event-size n) (subst (λ m. Each-met f (whole vs) (decode m)) (step-other l v n) r)
 
     go : Each-met f (whole vs) (decode (step l v .image)) → Each-met f (whole (v ∷ vs)) (decode l)
-    go r = by-test (eqb (length v) event-size) (λ t. counted (is (length v) event-size t) r) (λ t. passed (isnt (length v) event-size t) r)
+    go r = by-test (eqb (length v) event-size) (λ t. counted (eqb→eq (length v) event-size t) r) (λ t. passed (neqb→ne (length v) event-size t) r)
 
 module _ (l : List ℕ) (ok : accepted l ≡ true) where
   is-accepted : Accepted (decode l)

@@ -11,7 +11,7 @@ use Rattle.rules.specs.Forms.{forms, no-form, malformed}
 use Rattle.rules.specs.Actors.{may-act, acts-for}
 use Rattle.rules.specs.Codes.{id-unknown, actor-barred, time-back, card-unknown, card-wrong, card-away, id-taken, key-elsewhere, install-of-other, mark-of-other, no-such-root, another-valid, no-free-slot, never, not-permitted, refusals, code-of}
 use Rattle.rules.specs.Effects.{effect, settle, changed}
-use Rattle.rules.proofs.Tests.{and-i, not-intro, isnt, first-in}
+use Rattle.rules.proofs.Tests.{and-i, not-intro, neqb→ne, first-in}
 use Rattle.demands.proofs.After.{after}
 use Rattle.demands.proofs.Told.{Told, told}
 
@@ -40,7 +40,7 @@ after-cases P e p done refused = go (eqb (code-of p e) 0) (λ h. done (told p e 
 -- what is refused changes nothing
 pub refused-still : (p : Phone) (e : Event) → T (not (eqb (code-of p e) 0)) → after e p ≡ p
 unfolding after
-refused-still p e n = rw (ne-eqb (code-of p e) 0 (isnt (code-of p e) 0 n))
+refused-still p e n = rw (ne-eqb (code-of p e) 0 (neqb→ne (code-of p e) 0 n))
 
 -- how a test of several parts is seen not to apply
 pub nor-i : (a b : Bool) → T (not a) → T (not b) → T (not (a || b))

@@ -4,7 +4,7 @@ use mathlib.Core.Bool.{Bool, true, false, cond, not, _&&_}
 use mathlib.Core.List.{List}
 use mathlib.Core.Logic.{_≢_, inl, inr}
 use mathlib.Core.Path.{_≡_, refl, ap}
-use lib.Dec.{T, T-not, eqb}
+use lib.Dec.{T, T-not, eqb, eqb→eq}
 use lib.ListN.{getD, List·getD-map}
 use Rattle.records.specs.Phone.{Trust, Phone, no-certificate, no-executable, certificate-at, executable-at, with-certificates, with-executables, with-card, marked, in-domain}
 use Rattle.records.specs.declared.Certificate.{Certificate}
@@ -16,7 +16,7 @@ use Rattle.rules.specs.Forms.{with-kind}
 use Rattle.rules.specs.Codes.{has-id, is-executable, certificate-named, code-of}
 use Rattle.rules.specs.Effects.{phone-operator-root, retired, card-rule, tick, card-in, card-out, power-up, install-certificate, delete-certificate, on-a-card, after-marking, mark-valid, mark-invalid, message}
 use Rattle.rules.specs.Effects.{install-executable, delete-executable, verify, give, withdraw, request, effect, settled, settle, changed}
-use Rattle.rules.proofs.Tests.{tests, is}
+use Rattle.rules.proofs.Tests.{tests}
 use Rattle.rules.proofs.Changes.{at-cases, map-at, change-at, fill-at}
 use Rattle.demands.specs.Frames.{Certificate-kept, Up-to-settling, Executable-kept, Framed-change}
 use Rattle.demands.proofs.ByKind.{by-kind}
@@ -60,7 +60,7 @@ executable-named-at : (e : Event) (p : Phone) (f : Executable → Executable) �
     → Touched e p (with-executables (change (is-executable (e .id)) f (p .executables)) p)
 executable-named-at e p f h =
     of-executables e p _
-    (change-at (Executable-kept (p .trust) e) (is-executable (e .id)) f no-executable (p .executables) stays (λ x t. h x (is (x .id) (e .id) t)))
+    (change-at (Executable-kept (p .trust) e) (is-executable (e .id)) f no-executable (p .executables) stays (λ x t. h x (eqb→eq (x .id) (e .id) t)))
 
 -- another card, by an event that may change it
 of-card : (e : Event) (p : Phone) (n : ℕ) (l : List Certificate) → T (between 2 4 (e .kind))
@@ -101,7 +101,7 @@ of-mark-valid e p =
 
     go : (c : Certificate) (b : Bool) → (T b → T (has-id (e .id) c))
         → Certificate-kept (p .mode) (with-kind 7 e) c (cond b (marked 1 c) (at (λ c. on-a-card r && phone-operator-root c) (marked 0) c))
-    go c true h = Certificate-kept.marked-valid refl (is (c .id) (e .id) (h tt)) refl
+    go c true h = Certificate-kept.marked-valid refl (eqb→eq (c .id) (e .id) (h tt)) refl
     go c false h =
         at-cases (λ lo hi. Certificate-kept (p .mode) (with-kind 7 e) hi lo) (λ c. on-a-card r && phone-operator-root c) (marked 0) c
         (λ t. Certificate-kept.swept tt (search tests) refl) (λ t. kept _)
@@ -117,13 +117,13 @@ touched e p h =
       power-up = of-power-up e p;
       install-certificate =
           of-certificates (with-kind 5 e) p _
-          (fill-at (Certificate-kept (p .mode) (with-kind 5 e)) free-certificate _ no-certificate certificates kept (λ c t. Certificate-kept.filled refl (is (c .id) 0 t) refl));
+          (fill-at (Certificate-kept (p .mode) (with-kind 5 e)) free-certificate _ no-certificate certificates kept (λ c t. Certificate-kept.filled refl (eqb→eq (c .id) 0 t) refl));
       delete-certificate =
           of-certificates (with-kind 6 e) p _
-          (certificates-at (with-kind 6 e) p (has-id (e .id)) _ (λ c t. Certificate-kept.deleted refl (is (c .id) (e .id) t) refl));
+          (certificates-at (with-kind 6 e) p (has-id (e .id)) _ (λ c t. Certificate-kept.deleted refl (eqb→eq (c .id) (e .id) t) refl));
       mark-valid = of-mark-valid e p;
       mark-invalid =
-          of-certificates (with-kind 8 e) p _ (certificates-at (with-kind 8 e) p (has-id (e .id)) (marked 0) (λ c t. Certificate-kept.marked-invalid refl (is (c .id) (e .id) t) refl));
+          of-certificates (with-kind 8 e) p _ (certificates-at (with-kind 8 e) p (has-id (e .id)) (marked 0) (λ c t. Certificate-kept.marked-invalid refl (eqb→eq (c .id) (e .id) t) refl));
       message = record {
         clock = λ n. refl;
         card = λ n. refl;
@@ -133,7 +133,7 @@ touched e p h =
       };
       install-executable =
           of-executables (with-kind 10 e) p _
-          (fill-at (Executable-kept (p .trust) (with-kind 10 e)) free-executable _ no-executable (p .executables) stays (λ x t. Executable-kept.filled refl (is (x .id) 0 t) refl));
+          (fill-at (Executable-kept (p .trust) (with-kind 10 e)) free-executable _ no-executable (p .executables) stays (λ x t. Executable-kept.filled refl (eqb→eq (x .id) 0 t) refl));
       delete-executable = executable-named-at (with-kind 11 e) p _ (λ x i. Executable-kept.deleted refl i refl);
       verify = executable-named-at (with-kind 12 e) p _ (λ x i. Executable-kept.verified refl i refl);
       give = executable-named-at (with-kind 13 e) p _ (λ x i. Executable-kept.given refl i (inl refl));

@@ -4,7 +4,7 @@ use mathlib.Core.Bool.{Bool, true, false, cond, not, _&&_, _||_}
 use mathlib.Core.List.{List, List·Memᴰ}
 use mathlib.Core.Logic.{_≢_, _⊎_, inl, inr}
 use mathlib.Core.Path.{_≡_, refl, subst, sym, _∙_}
-use lib.Dec.{T, eqb, lit<}
+use lib.Dec.{T, eqb, lit<, eqb→eq}
 use Rattle.bits.specs.Bits.{digit, has-bit, set-bit}
 use Rattle.bits.proofs.Laws.{digit-same, digit-other}
 use Rattle.records.specs.Phone.{Seen, Trust, Phone, no-certificate, with-certificates, with-executables, marked, enabling, in-domain, permitted}
@@ -18,7 +18,7 @@ use Rattle.rules.specs.Forms.{with-kind, new-certificate, listed}
 use Rattle.rules.specs.Codes.{has-id, is-executable, certificate-named}
 use Rattle.rules.specs.Effects.{phone-operator-root, install-certificate, on-a-card, after-marking, mark-valid, enabled-by, message, install-executable, verify, give, effect}
 use Rattle.rules.specs.Demands.{giving}
-use Rattle.rules.proofs.Tests.{is, si, isnt, tnsi, by-test}
+use Rattle.rules.proofs.Tests.{eq→eqb, neqb→ne, ne→neqb, by-test}
 use Rattle.rules.proofs.Lists.{any-in, fill-keeps, fill-has}
 use Rattle.rules.proofs.Changes.{at-cases}
 use Rattle.rules.proofs.Accepted.{Occupied, Accepted}
@@ -46,7 +46,7 @@ more-filled p ok new = fewer-by (p .trust) filled (λ c m. by-test (free-certifi
 
     free : (c : Certificate) → (c ≡ no-certificate) ⊎ Occupied c → T (free-certificate c) → c ≡ no-certificate
     free c (inl z) t = z
-    free c (inr o) t = absurd (o .id (is (c .id) 0 t))
+    free c (inr o) t = absurd (o .id (eqb→eq (c .id) 0 t))
 
     replaced : (c : Certificate) → List·Memᴰ c (p .trust .certificates) → T (free-certificate c) → From (p .trust) filled c
     replaced c m t =
@@ -84,13 +84,13 @@ enabling-widens s e c h =
 -- ---- executables
 
 set-keeps : (w k a : ℕ) → T (has-bit w a) → T (has-bit (set-bit w k) a)
-set-keeps w k a h = si (digit (set-bit w k) a) 1 (by-test (eqb a k) (λ t. same (is a k t)) (λ t. other (isnt a k t)))
+set-keeps w k a h = eq→eqb (digit (set-bit w k) a) 1 (by-test (eqb a k) (λ t. same (eqb→eq a k t)) (λ t. other (neqb→ne a k t)))
   where
     same : a ≡ k → digit (set-bit w k) a ≡ 1
     same e = subst (λ j. digit (set-bit w k) j ≡ 1) (sym e) (digit-same w k 1 (lit< tt))
 
     other : a ≢ k → digit (set-bit w k) a ≡ 1
-    other n = digit-other w k 1 a (lit< tt) n ∙ is (digit w a) 1 h
+    other n = digit-other w k 1 a (lit< tt) n ∙ eqb→eq (digit w a) 1 h
 
 setting-over : (k : ℕ) (x : Executable) → Below x (permitted (set-bit (x .permissions) k) x)
 setting-over k x = record { id = refl; signing = refl; domain = inr refl; permissions = set-keeps (x .permissions) k }
@@ -101,7 +101,7 @@ verifying-over p ok x m =
     record {
       id = refl;
       signing = refl;
-      domain = by-test (eqb (x .domain) 0) (λ t. inl (is (x .domain) 0 t)) (λ t. inr (sym (found (isnt (x .domain) 0 t))));
+      domain = by-test (eqb (x .domain) 0) (λ t. inl (eqb→eq (x .domain) 0 t)) (λ t. inr (sym (found (neqb→ne (x .domain) 0 t))));
       permissions = λ a h. h;
     }
   where
@@ -119,7 +119,7 @@ over-filled p new =
     let q = with-executables (fill free-executable new (p .executables)) p in
     record {
       trust = fewer-refl (p .trust);
-      executables = λ x m n. over-itself q x (fill-keeps free-executable new (p .executables) x m (tnsi (x .id) 0 n));
+      executables = λ x m n. over-itself q x (fill-keeps free-executable new (p .executables) x m (ne→neqb (x .id) 0 n));
       table = refl;
     }
 
@@ -142,7 +142,7 @@ effect-over p ok e d g =
       delete-certificate = λ g. absurd g;
       mark-valid = λ g. under-trust p _ (more-map s l (after-marking (e .id) r) (λ c. marking-widens s (e .id) r c g)) refl refl;
       mark-invalid = λ g. absurd g;
-      message = λ g. under-trust p _ (more-map s l _ (λ c. enabling-widens s (with-kind 9 e) c (is (e .third) 1 (or-false (eqb (e .third) 1) g)))) refl refl;
+      message = λ g. under-trust p _ (more-map s l _ (λ c. enabling-widens s (with-kind 9 e) c (eqb→eq (e .third) 1 (or-false (eqb (e .third) 1) g)))) refl refl;
       install-executable = λ g. over-filled p _;
       delete-executable = λ g. absurd g;
       verify = λ g. over-change p (is-executable (e .id)) _ (verifying-over p ok);

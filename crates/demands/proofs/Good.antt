@@ -5,12 +5,12 @@ use mathlib.Core.Logic.{_⊎_, inl, inr}
 use mathlib.Core.Path.{_≡_, refl, subst, sym, _∙_}
 use native.Mathlib.Omega.{arith}
 use native.Mathlib.Nat.{le-trans}
-use lib.Dec.{T, eqb, leb, leb→le, le→leb}
+use lib.Dec.{T, eqb, leb, leb→le, le→leb, eqb→eq}
 use Rattle.records.specs.Phone.{Seen, no-certificate, marked, enabling}
 use Rattle.records.specs.declared.Certificate.{Certificate}
 use Rattle.rules.specs.Chains.{present, in-date, valid-root, trusted-root, link}
 use Rattle.rules.specs.ImageRules.{valid-in}
-use Rattle.rules.proofs.Tests.{tests, is, or-cases}
+use Rattle.rules.proofs.Tests.{tests, or-cases}
 use Rattle.rules.proofs.Accepted.{Valid}
 use Rattle.rules.proofs.Roots.{Like, valid-root-of, valid-mark, valid-any-time, valid-like}
 
@@ -101,8 +101,8 @@ wider-present q p c w h = go (w .card) (or-cases (eqb (c .place) 0) (eqb (c .pla
   where
     go : (q .card ≡ p .card) ⊎ (q .card ≡ 0) → T (eqb (c .place) 0) ⊎ T (eqb (c .place) (q .card)) → T (eqb (c .place) 0 || eqb (c .place) (p .card))
     go e (inl z) = search tests
-    go (inl e) (inr z) = let y : c .place ≡ p .card = is (c .place) (q .card) z ∙ e in search tests
-    go (inr e) (inr z) = let y : c .place ≡ 0 = is (c .place) (q .card) z ∙ e in search tests
+    go (inl e) (inr z) = let y : c .place ≡ p .card = eqb→eq (c .place) (q .card) z ∙ e in search tests
+    go (inr e) (inr z) = let y : c .place ≡ 0 = eqb→eq (c .place) (q .card) z ∙ e in search tests
 
 pub wider-trusted : (q p : Seen) (c : Certificate) → Wider q p → T (trusted-root q c) → T (trusted-root p c)
 wider-trusted q p c w h =

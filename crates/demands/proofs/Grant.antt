@@ -6,7 +6,7 @@ use mathlib.Core.Logic.{_≢_, _⊎_, inl, inr, _↔_}
 use mathlib.Core.Path.{_≡_, subst, subst₂, sym, ap, _∙_}
 use native.Mathlib.Omega.{arith}
 use native.Mathlib.Nat.{le-refl}
-use lib.Dec.{T, eqb, ltb, ltb→lt, lt→ltb}
+use lib.Dec.{T, eqb, ltb, ltb→lt, lt→ltb, eqb→eq}
 use lib.ListN.{length, getD}
 use Rattle.bits.specs.Bits.{has-bit}
 use Rattle.records.specs.Layout.{row-byte}
@@ -15,7 +15,7 @@ use Rattle.records.specs.declared.Executable.{Executable}
 use Rattle.rules.specs.Forms.{action-form}
 use Rattle.rules.specs.Codes.{is-executable, executable-named, executable-known, table-byte, code-of}
 use Rattle.rules.specs.Demands.{request-event}
-use Rattle.rules.proofs.Tests.{tests, by-test, nand, not-elim, not-intro, is, si, isnt}
+use Rattle.rules.proofs.Tests.{tests, by-test, nand, not-elim, not-intro, eq→eqb, neqb→ne}
 use Rattle.rules.proofs.Lists.{find-in, any-in}
 use Rattle.rules.proofs.Distinct.{alone}
 use Rattle.rules.proofs.Rows.{row-at-small, row-at-least}
@@ -58,7 +58,7 @@ grant-out p n a h =
       in-table = search tests;
       known = search tests;
       some-byte = search tests;
-      permission = λ one. not-elim (permission-for p n a) (nand (eqb (byte-for p n a) 1) (not (permission-for p n a)) (d .permitted) (si (byte-for p n a) 1 one));
+      permission = λ one. not-elim (permission-for p n a) (nand (eqb (byte-for p n a) 1) (not (permission-for p n a)) (d .permitted) (eq→eqb (byte-for p n a) 1 one));
     }
 
 grant-in : (p : Phone) (n a : ℕ) → Grant p n a → T (granted p n a)
@@ -81,7 +81,7 @@ grant-in p n a g =
       none-valid = tt;
       room = tt;
       table-open = search tests;
-      permitted = nand-i (eqb (byte-for p n a) 1) (not (permission-for p n a)) (λ one. not-intro (permission-for p n a) (g .permission (is (byte-for p n a) 1 one)));
+      permitted = nand-i (eqb (byte-for p n a) 1) (not (permission-for p n a)) (λ one. not-intro (permission-for p n a) (g .permission (eqb→eq (byte-for p n a) 1 one)));
     })
 
 -- ---- the executable that a request names
@@ -90,7 +90,7 @@ pub known-executable : (p : Phone) (n : ℕ) → T (executable-known p n) → Li
 unfolding executable-named executable-known
 known-executable p n k =
     let f = find-in (is-executable n) no-executable (p .executables) k in
-    (f .0, is (executable-named p n .id) n (f .1))
+    (f .0, eqb→eq (executable-named p n .id) n (f .1))
 
 module _ (p : Phone) (ok : Accepted p) where
   pub small-domain : (x : Executable) → List·Memᴰ x (p .executables) → x .domain ≤ 3
@@ -103,7 +103,7 @@ module _ (p : Phone) (ok : Accepted p) where
   the-executable : (x : Executable) (n : ℕ) → List·Memᴰ x (p .executables) → x .id ≡ n → n ≢ 0 → T (executable-known p n) × (executable-named p n ≡ x)
   unfolding executable-known
   the-executable x n m i nz =
-      let k : T (executable-known p n) = any-in (is-executable n) m (si (x .id) n i) in
+      let k : T (executable-known p n) = any-in (is-executable n) m (eq→eqb (x .id) n i) in
       let f = known-executable p n k in
       (k, alone (λ x. x .id) (p .executables) (ok .ids) (executable-named p n) x (f .0) m (λ z. nz (sym (f .1) ∙ z)) (f .1 ∙ sym i))
 
@@ -128,8 +128,8 @@ granted-exact p ok n a = (λ h. there (grant-out p n a h), λ g. grant-in p n a 
     byte : Grant p n a → (byte-for p n a ≡ 2) ⊎ ((byte-for p n a ≡ 1) × T (permission-for p n a))
     byte g =
         by-test (eqb (byte-for p n a) 1)
-        (λ t. let one = is (byte-for p n a) 1 t in inr (one, g .permission one))
-        (λ t. inl (omega (arith, g .some-byte, isnt (byte-for p n a) 1 t, row-at-small p ok a (x .domain))))
+        (λ t. let one = eqb→eq (byte-for p n a) 1 t in inr (one, g .permission one))
+        (λ t. inl (omega (arith, g .some-byte, neqb→ne (byte-for p n a) 1 t, row-at-small p ok a (x .domain))))
 
     there : Grant p n a → Granted p n a
     there g =

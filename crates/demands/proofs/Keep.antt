@@ -5,7 +5,7 @@ use mathlib.Core.List.{List, map, List·Memᴰ, Memᴰ·of-map}
 use mathlib.Core.Logic.{_≢_, _⊎_, inl, inr}
 use mathlib.Core.Path.{_≡_, refl, subst, sym, ap, _∙_}
 use native.Mathlib.Omega.{arith}
-use lib.Dec.{T, eqb, T-not}
+use lib.Dec.{T, eqb, T-not, eqb→eq}
 use Rattle.records.specs.Phone.{Seen, Trust, Phone, no-certificate, marked, enabling, with-card}
 use Rattle.records.specs.declared.Certificate.{Certificate}
 use Rattle.records.specs.declared.Card.{Card}
@@ -15,7 +15,7 @@ use Rattle.rules.specs.ImageRules.{free-certificate, known-place, operator-of, 
 use Rattle.rules.specs.Forms.{listed}
 use Rattle.rules.specs.Codes.{has-id}
 use Rattle.rules.specs.Effects.{phone-operator-root, retired, card-rule, enabled-by}
-use Rattle.rules.proofs.Tests.{tests, is, nand, nor-l}
+use Rattle.rules.proofs.Tests.{tests, nand, nor-l}
 use Rattle.rules.proofs.Lists.{fill-out}
 use Rattle.rules.proofs.Distinct.{distinct-fill}
 use Rattle.rules.proofs.Changes.{at-cases}
@@ -74,7 +74,7 @@ keep-change cards t f g mild low free fits ok =
     }
 
 no-number : (n : ℕ) → n ≢ 0 → T (has-id n no-certificate) → ⊥
-no-number n nz t = nz (sym (is 0 n t))
+no-number n nz t = nz (sym (eqb→eq 0 n t))
 
 pub keep-delete : (cards : List Card) (t : Trust) (n : ℕ) → n ≢ 0 → Kept cards t → Kept cards (holding (change (has-id n) (λ c. no-certificate) (t .certificates)) t)
 keep-delete cards t n nz ok =
@@ -84,7 +84,7 @@ pub keep-invalid : (cards : List Card) (t : Trust) (n : ℕ) → n ≢ 0 → ((c
     → Kept cards t → Kept cards (holding (change (has-id n) (marked 0) (t .certificates)) t)
 keep-invalid cards t n nz root ok =
     keep-change cards t (has-id n) (marked 0) (λ c. inr (like-marked 0 c)) (λ c e. absurd (omega arith)) (no-number n nz)
-    (λ c m h o. inr (marked-fits 0 c (omega arith) (root c m (is (c .id) n h)) o)) ok
+    (λ c m h o. inr (marked-fits 0 c (omega arith) (root c m (eqb→eq (c .id) n h)) o)) ok
 
 enabled-small : (e : Event) (c : Certificate) → enabled-by e c ≤ 1
 unfolding enabled-by
@@ -168,7 +168,7 @@ keep-card-in p k nz kn ok =
         (T-not (has-valid-operator now k) (nor-l (has-valid-operator now k) (not (eqb (x .owner) (operator-of (p .cards) k))) a) (has-valid-in now k y (b .0) w g))
 
     mine : (x : Certificate) → List·Memᴰ x (map f l) → Valid 1 at-now x → x .place ≡ 0 → k ≢ 0 → x .owner ≡ operator-of (p .cards) k
-    mine x m v e z = let a = left x m v e in is (x .owner) (operator-of (p .cards) k) (search tests)
+    mine x m v e z = let a = left x m v e in eqb→eq (x .owner) (operator-of (p .cards) k) (search tests)
 
 -- ---- a new certificate
 

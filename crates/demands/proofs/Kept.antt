@@ -4,7 +4,7 @@ use mathlib.Core.Bool.{Bool, true, false, cond}
 use mathlib.Core.List.{List, [], _∷_, map, List·Memᴰ}
 use mathlib.Core.Logic.{_≢_, _⊎_, inl, inr}
 use mathlib.Core.Path.{_≡_, subst, sym, _∙_}
-use lib.Dec.{T, eqb}
+use lib.Dec.{T, eqb, eqb→eq}
 use lib.ListN.{length}
 use Rattle.records.specs.Phone.{Phone, no-certificate, no-executable}
 use Rattle.records.specs.declared.Certificate.{Certificate}
@@ -17,7 +17,7 @@ use Rattle.rules.specs.Chains.{present}
 use Rattle.rules.specs.ImageRules.{row-fits}
 use Rattle.rules.specs.Codes.{code-of}
 use Rattle.rules.specs.Effects.{effect, settle, changed}
-use Rattle.rules.proofs.Tests.{is, or-cases}
+use Rattle.rules.proofs.Tests.{or-cases}
 use Rattle.rules.proofs.Distinct.{alone}
 use Rattle.rules.proofs.Accepted.{Occupied, Valid, Kept, Named, Stored, Accepted}
 use Rattle.demands.proofs.After.{after, after-all}
@@ -78,14 +78,14 @@ module _ (p : Phone) (ok : Accepted p) where
   one-id c e m n v w a b = go (or-cases (eqb (c .place) 0) (eqb (c .place) card) a) (or-cases (eqb (e .place) 0) (eqb (e .place) card) b)
     where
       go : T (eqb (c .place) 0) ⊎ T (eqb (c .place) card) → T (eqb (e .place) 0) ⊎ T (eqb (e .place) card) → c .id ≡ e .id
-      go (inl x) (inl y) = ok .trust .marks .one-each c e m n v w (is (c .place) 0 x ∙ sym (is (e .place) 0 y))
-      go (inr x) (inr y) = ok .trust .marks .one-each c e m n v w (is (c .place) card x ∙ sym (is (e .place) card y))
+      go (inl x) (inl y) = ok .trust .marks .one-each c e m n v w (eqb→eq (c .place) 0 x ∙ sym (eqb→eq (e .place) 0 y))
+      go (inr x) (inr y) = ok .trust .marks .one-each c e m n v w (eqb→eq (c .place) card x ∙ sym (eqb→eq (e .place) card y))
       go (inl x) (inr y) =
-          let z = ok .trust .marks .not-both c e m n v w (is (c .place) 0 x) (is (e .place) card y) in
-          ok .trust .marks .one-each c e m n v w (is (c .place) 0 x ∙ sym (is (e .place) card y ∙ z))
+          let z = ok .trust .marks .not-both c e m n v w (eqb→eq (c .place) 0 x) (eqb→eq (e .place) card y) in
+          ok .trust .marks .one-each c e m n v w (eqb→eq (c .place) 0 x ∙ sym (eqb→eq (e .place) card y ∙ z))
       go (inr x) (inl y) =
-          let z = ok .trust .marks .not-both e c n m w v (is (e .place) 0 y) (is (c .place) card x) in
-          ok .trust .marks .one-each c e m n v w (is (c .place) card x ∙ z ∙ sym (is (e .place) 0 y))
+          let z = ok .trust .marks .not-both e c n m w v (eqb→eq (e .place) 0 y) (eqb→eq (c .place) card x) in
+          ok .trust .marks .one-each c e m n v w (eqb→eq (c .place) card x ∙ z ∙ sym (eqb→eq (e .place) 0 y))
 
   pub one-operator : (c e : Certificate) → List·Memᴰ c (p .trust .certificates) → List·Memᴰ e (p .trust .certificates)
       → Valid 1 (p .trust .seen .clock) c → Valid 1 (p .trust .seen .clock) e → T (present (p .trust .seen) c) → T (present (p .trust .seen) e) → c ≡ e

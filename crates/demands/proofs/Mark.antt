@@ -5,7 +5,7 @@ use mathlib.Core.List.{List, map, List·Memᴰ, Memᴰ·of-map}
 use mathlib.Core.Logic.{_≢_, _⊎_, inl, inr}
 use mathlib.Core.Path.{_≡_, subst, sym, ap, _∙_}
 use native.Mathlib.Omega.{arith}
-use lib.Dec.{T, eqb, T-not}
+use lib.Dec.{T, eqb, T-not, eqb→eq}
 use Rattle.records.specs.Phone.{Seen, Trust, marked}
 use Rattle.records.specs.declared.Certificate.{Certificate}
 use Rattle.records.specs.declared.Card.{Card}
@@ -13,7 +13,7 @@ use Rattle.rules.specs.Chains.{present}
 use Rattle.rules.specs.ImageRules.{operator-of}
 use Rattle.rules.specs.Codes.{has-id, rival}
 use Rattle.rules.specs.Effects.{phone-operator-root, on-a-card, after-marking}
-use Rattle.rules.proofs.Tests.{tests, is, isnt, nand, by-test}
+use Rattle.rules.proofs.Tests.{tests, neqb→ne, nand, by-test}
 use Rattle.rules.proofs.Roots.{Like, valid-root-of, valid-kind, valid-domain, valid-mark}
 use Rattle.rules.proofs.Accepted.{Valid, Kept}
 use Rattle.demands.proofs.Keep.{holding}
@@ -63,10 +63,10 @@ module _ (l : List Certificate) (r : Certificate) (alone : (c : Certificate) →
     where
       go : (c : Certificate) → List·Memᴰ c l → (a : Bool) → (T a → T (has-id (r .id) c)) → (T (not a) → T (not (has-id (r .id) c)))
           → (d : Bool) → (T (not d) → T (not (on-a-card r && phone-operator-root c))) → cond a (marked 1 c) (cond d (marked 0 c) c) ≡ x → Origin l r x
-      go c m true h i d k e = chosen (subst (Like x) (sym (alone c m (is (c .id) (r .id) (h tt)))) (subst (λ y. Like y c) e (like-marked 1 c)))
+      go c m true h i d k e = chosen (subst (Like x) (sym (alone c m (eqb→eq (c .id) (r .id) (h tt)))) (subst (λ y. Like y c) e (like-marked 1 c)))
       go c m false h i true k e = let z : 0 ≡ x .mark = ap (λ y. y .mark) e in absurd (omega arith)
       go c m false h i false k e =
-          left (subst (λ y. List·Memᴰ y l) e m) (subst (λ y. y .id ≢ r .id) e (isnt (c .id) (r .id) (i tt)))
+          left (subst (λ y. List·Memᴰ y l) e m) (subst (λ y. y .id ≢ r .id) e (neqb→ne (c .id) (r .id) (i tt)))
           (subst (λ y. T (not (on-a-card r && phone-operator-root y))) e (k tt))
 
 like-after : (n : ℕ) (r c : Certificate) → Like (after-marking n r c) c
@@ -80,7 +80,7 @@ like-after n r c = go (has-id n c) (on-a-card r && phone-operator-root c)
 
 fits-after : (n : ℕ) (r c : Certificate) → n ≢ 0 → (c .id ≡ n → c .kind ≢ 1) → Slot c → Slot (after-marking n r c)
 unfolding after-marking
-fits-after n r c nz k o = go (has-id n c) (on-a-card r && phone-operator-root c) (λ h. is (c .id) n h) (λ h. search tests) o
+fits-after n r c nz k o = go (has-id n c) (on-a-card r && phone-operator-root c) (λ h. eqb→eq (c .id) n h) (λ h. search tests) o
   where
     go : (a d : Bool) → (T a → c .id ≡ n) → (T d → T (phone-operator-root c)) → Slot c → Slot (cond a (marked 1 c) (cond d (marked 0 c) c))
     go true d h i (inl z) = absurd (nz (sym (h tt) ∙ ap (λ c. c .id) z))
@@ -115,8 +115,8 @@ module _ (cards : List Card) (t : Trust) (r : Certificate) (clear : Clear cards 
       let d : r .domain ≡ 1 = sym (a .domain) ∙ valid-domain 1 (t .seen .clock) x v in
       let q : y .place ≡ r .place = sym e ∙ a .place in
       by-test (eqb (r .place) 0)
-      (λ h. let z : r .place ≡ 0 = is (r .place) 0 h in clear .no-rival y m (rival-here (t .seen) r y i d w z (present-by (t .seen) y (inl (q ∙ z)))))
-      (λ h. clear .no-rival y m (rival-there (t .seen) r y i d w (isnt (r .place) 0 h) q))
+      (λ h. let z : r .place ≡ 0 = eqb→eq (r .place) 0 h in clear .no-rival y m (rival-here (t .seen) r y i d w z (present-by (t .seen) y (inl (q ∙ z)))))
+      (λ h. clear .no-rival y m (rival-there (t .seen) r y i d w (neqb→ne (r .place) 0 h) q))
 
   each : (x y : Certificate) → Now 1 t x → Now 1 t y → x .place ≡ y .place → From t r x → From t r y → x .id ≡ y .id
   each x y v w e (chosen a) (chosen b) = cc
@@ -146,7 +146,7 @@ module _ (cards : List Card) (t : Trust) (r : Certificate) (clear : Clear cards 
   both x y v w e g (chosen a) (left m i s) =
       absurd (clear .no-rival y m (rival-here (t .seen) r y i (sym (a .domain) ∙ valid-domain 1 (t .seen .clock) x v) w (sym (a .place) ∙ e) (present-by (t .seen) y (inr g))))
   both x y v w e g (left m i s) (chosen a) =
-      by-test (eqb (t .seen .card) 0) (λ h. is (t .seen .card) 0 h) (λ h. absurd (none-left x y v e s a w (λ z. isnt (t .seen .card) 0 h (sym g ∙ z))))
+      by-test (eqb (t .seen .card) 0) (λ h. eqb→eq (t .seen .card) 0 h) (λ h. absurd (none-left x y v e s a w (λ z. neqb→ne (t .seen .card) 0 h (sym g ∙ z))))
   both x y v w e g (left m i s) (left n j u) = ok .marks .not-both x y m n v w e g
 
   mine : (x : Certificate) → Now 1 t x → x .place ≡ 0 → t .seen .card ≢ 0 → From t r x → x .owner ≡ operator-of cards (t .seen .card)

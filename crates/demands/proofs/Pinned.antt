@@ -17,7 +17,7 @@ use Rattle.rules.specs.Codes.{certificate-named}
 use Rattle.rules.specs.Effects.{phone-operator-root, enabled-by, new-executable}
 use Rattle.rules.specs.Computing.{computing}
 use Rattle.rules.specs.WorkedRun.{image}
-use Rattle.rules.proofs.Tests.{tests, si, and-i, or-i, or-j}
+use Rattle.rules.proofs.Tests.{tests, eq→eqb, and-i, or-i, or-j}
 use Rattle.rules.proofs.Lists.{all-out}
 use Rattle.demands.specs.Runs.{Valid-operator}
 use Rattle.demands.specs.Frames.{Certificate-kept, Up-to-settling, Executable-kept}
@@ -43,7 +43,7 @@ ten-is-valid = valid-operator (decode image) (certificate-named (decode image) 1
 -- ---- in which ways a field may change: as the frames say, and in no other
 
 -- how a test that holds in one of its parts is put together
-ruleset shown = (or-i, or-j, and-i, si)
+ruleset shown = (or-i, or-j, and-i, eq→eqb)
 
 -- a field f of a certificate slot before (c) and after (d) an event, a line for each way
 abbrev certificate-shows : (Certificate → ℕ) → ℕ → Event → Certificate → Certificate → Bool

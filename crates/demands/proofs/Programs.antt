@@ -5,7 +5,7 @@ use mathlib.Core.List.{List, map, List·Memᴰ, Memᴰ·of-map}
 use mathlib.Core.Logic.{_≢_, _⊎_, inl, inr}
 use mathlib.Core.Path.{_≡_, refl, subst, sym, ap, _∙_}
 use native.Mathlib.Omega.{arith}
-use lib.Dec.{T, eqb}
+use lib.Dec.{T, eqb, eqb→eq}
 use lib.ListN.{length}
 use lib.Pow.{pow-pos}
 use Rattle.bits.specs.Bits.{put-digit}
@@ -20,7 +20,7 @@ use Rattle.rules.specs.Forms.{with-kind, executable-form}
 use Rattle.rules.specs.Codes.{is-executable, executable-known, id-taken}
 use Rattle.rules.specs.Effects.{tick, card-in, card-out, card-rule, power-up, install-certificate, delete-certificate, mark-valid, mark-invalid, message}
 use Rattle.rules.specs.Effects.{new-executable, install-executable, delete-executable, verify, give, withdraw, request, effect, settled, settle}
-use Rattle.rules.proofs.Tests.{tests, is, si, isnt, nor-l, nor-r}
+use Rattle.rules.proofs.Tests.{tests, eq→eqb, neqb→ne, nor-l, nor-r}
 use Rattle.rules.proofs.Lists.{none-out, fill-out}
 use Rattle.rules.proofs.Distinct.{distinct-map, distinct-fill}
 use Rattle.rules.proofs.Changes.{at-cases}
@@ -64,7 +64,7 @@ programs-change n l i g nz same fits ok =
     programs-map n l (at (is-executable i) g)
     (λ x. at-cases (λ lo hi. lo .id ≢ 0 → lo .id ≡ hi .id) (is-executable i) g x (λ h. same x) (λ h z. refl))
     (λ x. at-cases (λ lo hi. (hi ≡ no-executable) ⊎ Stored n hi → (lo ≡ no-executable) ⊎ Stored n lo) (is-executable i) g x
-    (λ h. hit x (is (x .id) i h)) (λ h o. o))
+    (λ h. hit x (eqb→eq (x .id) i h)) (λ h o. o))
     ok
   where
     hit : (x : Executable) → x .id ≡ i → (x ≡ no-executable) ⊎ Stored n x → (g x ≡ no-executable) ⊎ Stored n (g x)
@@ -110,7 +110,7 @@ pub settled-cases : (C : Executable → Type 0) (t : Trust) (x : Executable) →
 unfolding settled
 settled-cases C t x stay lose =
     go (chained-fits t x) (λ h. h)
-    (λ h. lose (isnt (x .domain) 0 (nor-l (eqb (x .domain) 0) (chains-to t (x .signing) (x .domain)) h)) (nor-r (eqb (x .domain) 0) (chains-to t (x .signing) (x .domain)) h))
+    (λ h. lose (neqb→ne (x .domain) 0 (nor-l (eqb (x .domain) 0) (chains-to t (x .signing) (x .domain)) h)) (nor-r (eqb (x .domain) 0) (chains-to t (x .signing) (x .domain)) h))
   where
     go : (b : Bool) → (T b → T (chained-fits t x)) → (T (not b) → C (in-domain 0 x)) → C (cond b x (in-domain 0 x))
     go true h k = stay (chained-out t x (h tt))
@@ -146,7 +146,7 @@ module _ (p : Phone) (ok : Programs (length (p .table)) (p .executables)) where
       let f = t .formed in
       let h = t .fresh in
       programs-install (length (p .table)) (p .executables) (with-kind 10 e) (search tests) ok
-      (λ x m z. none-out (is-executable (e .id)) (p .executables) (search tests) x m (si (x .id) (e .id) z))
+      (λ x m z. none-out (is-executable (e .id)) (p .executables) (search tests) x m (eq→eqb (x .id) (e .id) z))
 
   pub programs-effect : (e : Event) → Told p e → Programs (length (p .table)) (effect e p .executables)
   unfolding effect tick card-in card-out card-rule power-up install-certificate delete-certificate mark-valid mark-invalid message delete-executable verify give withdraw request

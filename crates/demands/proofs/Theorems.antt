@@ -29,7 +29,7 @@ use Rattle.rules.specs.Codes.{executable-named, rows, code}
 use Rattle.rules.specs.Effects.{changed}
 use Rattle.rules.specs.Step.{refused-at, refusal, step, run}
 use Rattle.rules.specs.Demands.{grants}
-use Rattle.rules.proofs.Tests.{si}
+use Rattle.rules.proofs.Tests.{eq→eqb}
 use Rattle.rules.proofs.Accepts.{accepted-out}
 use Rattle.rules.proofs.Shortest.{chain-chains}
 use Rattle.rules.proofs.Domain as Domain
@@ -105,7 +105,7 @@ module _ (l v : List ℕ) where
 
   -- and all else is kept
   pub event-frame : code l v ≡ 0 → Framed-change (event-of v) (decode l) (phone-after l v)
-  event-frame h = rw (event-phone h) (framed-changed (event-of v) (decode l) (si _ 0 (Bytes.code-whole-out l v h .code)))
+  event-frame h = rw (event-phone h) (framed-changed (event-of v) (decode l) (eq→eqb _ 0 (Bytes.code-whole-out l v h .code)))
 
   -- "No rule marks a key valid by itself.": a slot that is valid was valid before, or this event is "mark valid" of its id, or an install into it
   pub no-mark-by-itself : (i : ℕ) → certificate-at (phone-after l v) i .mark ≡ 1

@@ -4,7 +4,7 @@ use mathlib.Core.Bool.{not, _&&_}
 use mathlib.Core.List.{List, List·Memᴰ}
 use mathlib.Core.Logic.{_≢_}
 use mathlib.Core.Path.{_≡_, sym, _∙_}
-use lib.Dec.{T, eqb, leb, ltb→lt}
+use lib.Dec.{T, eqb, leb, ltb→lt, eqb→eq}
 use lib.ListN.{getD, length}
 use Rattle.records.specs.Phone.{Phone, no-certificate}
 use Rattle.records.specs.declared.Certificate.{Certificate}
@@ -13,7 +13,7 @@ use Rattle.rules.specs.Forms.{forms, no-form, malformed, id-form, action-form}
 use Rattle.rules.specs.Codes.{has-id, certificate-named, certificate-known, refusals, code-of}
 use Rattle.rules.specs.Codes.{id-unknown, actor-barred, time-back, card-unknown, card-wrong, card-away, id-taken, key-elsewhere}
 use Rattle.rules.specs.Codes.{install-of-other, mark-of-other, no-such-root, another-valid, no-free-slot, never, not-permitted}
-use Rattle.rules.proofs.Tests.{tests, is, si, and-r, not-elim, first-out}
+use Rattle.rules.proofs.Tests.{tests, eq→eqb, and-r, not-elim, first-out}
 use Rattle.rules.proofs.Lists.{any-in, find-in}
 use Rattle.rules.proofs.Distinct.{alone}
 use Rattle.rules.proofs.Accepted.{Held}
@@ -83,12 +83,12 @@ pub certificate-named-is : (p : Phone) (n : ℕ) → T (certificate-known p n) �
 unfolding certificate-known certificate-named
 certificate-named-is p n h =
     let f = find-in (has-id n) no-certificate (p .trust .certificates) h in
-    record { mem = f .0; id = is (certificate-named p n .id) n (f .1) }
+    record { mem = f .0; id = eqb→eq (certificate-named p n .id) n (f .1) }
 
 -- and it names no other
 pub certificate-named-alone : (p : Phone) (n : ℕ) (c : Certificate) → Held (p .cards) (p .trust .certificates) → n ≢ 0
     → Found (p .trust .certificates) n c → certificate-named p n ≡ c
 unfolding certificate-known
 certificate-named-alone p n c h nz w =
-    let g = certificate-named-is p n (any-in (has-id n) (w .mem) (si (c .id) n (w .id))) in
+    let g = certificate-named-is p n (any-in (has-id n) (w .mem) (eq→eqb (c .id) n (w .id))) in
     alone (λ c. c .id) (p .trust .certificates) (h .ids) (certificate-named p n) c (g .mem) (w .mem) (λ z. nz (sym (g .id) ∙ z)) (g .id ∙ sym (w .id))

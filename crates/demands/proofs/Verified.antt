@@ -4,7 +4,7 @@ use mathlib.Core.Bool.{Bool, true, false, cond, not, _||_}
 use mathlib.Core.List.{List, [], _∷_, map, List·Memᴰ, List·Memᴰ·head, List·Memᴰ·tail, Memᴰ·map, Memᴰ·of-map}
 use mathlib.Core.Logic.{_≢_, _⊎_, inl, inr}
 use mathlib.Core.Path.{_≡_, refl, subst, subst₂, sym, ap, _∙_}
-use lib.Dec.{T, T-not, eqb, eqb-refl}
+use lib.Dec.{T, T-not, eqb, eqb-refl, eqb→eq}
 use lib.ListN.{length}
 use Rattle.records.specs.Phone.{Trust, Phone, no-executable, with-executables, in-domain}
 use Rattle.records.specs.declared.Executable.{Executable}
@@ -15,7 +15,7 @@ use Rattle.rules.specs.Forms.{with-kind, id-form}
 use Rattle.rules.specs.Codes.{is-executable, executable-known, code-of}
 use Rattle.rules.specs.Effects.{verify, effect, settle, changed}
 use Rattle.rules.specs.Demands.{verify-event}
-use Rattle.rules.proofs.Tests.{tests, by-test, is, isnt, not-intro}
+use Rattle.rules.proofs.Tests.{tests, by-test, neqb→ne, not-intro}
 use Rattle.rules.proofs.Lists.{any-in}
 use Rattle.rules.proofs.Changes.{at-cases}
 use Rattle.rules.proofs.Accepted.{Stored, Accepted}
@@ -136,8 +136,8 @@ after-verify p n ok =
     same : T (not (eqb (code-of p (verify-event n)) 0)) → (x : Executable) → List·Memᴰ x (p .executables) → T (is-executable n x) → verdict (p .trust) x ≡ x
     same r x m t =
         by-test (eqb n 0)
-        (λ z. free x (ok .executables x m) (is (x .id) n t ∙ is n 0 z))
-        (λ z. absurd (T-not (eqb (code-of p (verify-event n)) 0) r (verify-done p n (isnt n 0 z) (any-in (is-executable n) m t))))
+        (λ z. free x (ok .executables x m) (eqb→eq (x .id) n t ∙ eqb→eq n 0 z))
+        (λ z. absurd (T-not (eqb (code-of p (verify-event n)) 0) r (verify-done p n (neqb→ne n 0 z) (any-in (is-executable n) m t))))
 
     kept : T (not (eqb (code-of p (verify-event n)) 0)) → (x : Executable) → List·Memᴰ x (p .executables) → at (is-executable n) (verdict (p .trust)) x ≡ x
     kept r x m = at-is (is-executable n) (verdict (p .trust)) x (same r x m)
@@ -204,7 +204,7 @@ verified-twice p ok =
 -- what a key chains to in the lower phone, it chains to in the higher one
 chain-domain-under : (q p : Trust) → Fewer q p → KeysApart p → (k : ℕ) → (chain-domain q k ≡ 0) ⊎ (chain-domain q k ≡ chain-domain p k)
 chain-domain-under q p f apart k =
-    by-test (eqb (chain-domain q k) 0) (λ t. inl (is (chain-domain q k) 0 t)) (λ t. go (chain-found q k) (isnt (chain-domain q k) 0 t))
+    by-test (eqb (chain-domain q k) 0) (λ t. inl (eqb→eq (chain-domain q k) 0 t)) (λ t. go (chain-found q k) (neqb→ne (chain-domain q k) 0 t))
   where
     go : (chain-domain q k ≡ 0) ⊎ T (chains-to q k (chain-domain q k)) → chain-domain q k ≢ 0 → (chain-domain q k ≡ 0) ⊎ (chain-domain q k ≡ chain-domain p k)
     go (inl z) n = inl z

@@ -5,7 +5,7 @@ use mathlib.Core.Logic.{_≢_, inl, inr}
 use mathlib.Core.Path.{_≡_, refl, subst, sym, _∙_}
 use native.Mathlib.Omega.{arith}
 use native.Mathlib.Nat.{le-refl}
-use lib.Dec.{T, eqb, nltb→le, lit<}
+use lib.Dec.{T, eqb, nltb→le, lit<, eqb→eq}
 use Rattle.bits.specs.Bits.{digit, has-bit, clear-bit}
 use Rattle.bits.proofs.Laws.{digit-same, digit-other}
 use Rattle.records.specs.Phone.{Seen, Phone, no-certificate, no-executable, with-seen, with-clock, with-card, with-certificates, with-executables, marked, enabling, permitted}
@@ -18,7 +18,7 @@ use Rattle.rules.specs.Forms.{with-kind, listed}
 use Rattle.rules.specs.Codes.{has-id, is-executable, time-back}
 use Rattle.rules.specs.Effects.{tick, card-out, delete-certificate, mark-invalid, enabled-by, message, delete-executable, withdraw, effect, settle}
 use Rattle.rules.specs.Demands.{withdrawing}
-use Rattle.rules.proofs.Tests.{is, si, isnt, by-test}
+use Rattle.rules.proofs.Tests.{eq→eqb, neqb→ne, by-test}
 use Rattle.rules.proofs.Changes.{at-cases}
 use Rattle.demands.proofs.ByKind.{by-kind}
 use Rattle.demands.proofs.After.{after}
@@ -53,10 +53,10 @@ disabling-narrows s e c h =
 -- ---- permissions
 
 clear-adds-none : (w k a : ℕ) → T (has-bit (clear-bit w k) a) → T (has-bit w a)
-clear-adds-none w k a h = by-test (eqb a k) (λ t. same (is a k t)) (λ t. si (digit w a) 1 (sym (digit-other w k 0 a (lit< tt) (isnt a k t)) ∙ one))
+clear-adds-none w k a h = by-test (eqb a k) (λ t. same (eqb→eq a k t)) (λ t. eq→eqb (digit w a) 1 (sym (digit-other w k 0 a (lit< tt) (neqb→ne a k t)) ∙ one))
   where
     one : digit (clear-bit w k) a ≡ 1
-    one = is (digit (clear-bit w k) a) 1 h
+    one = eqb→eq (digit (clear-bit w k) a) 1 h
 
     same : a ≡ k → T (has-bit w a)
     same e = absurd (omega (arith, one, subst (λ j. digit (clear-bit w k) j ≡ 0) (sym e) (digit-same w k 0 (lit< tt))))
@@ -83,7 +83,7 @@ effect-under p e d w =
       delete-certificate = λ d w. under-trust _ p (fewer-change p (has-id (e .id)) (λ c. no-certificate) (narrows-free s)) refl refl;
       mark-valid = λ d w. absurd w;
       mark-invalid = λ d w. under-trust _ p (fewer-change p (has-id (e .id)) (marked 0) (marking-narrows s)) refl refl;
-      message = λ d w. under-trust _ p (disabled-fewer (is (e .third) 0 w)) refl refl;
+      message = λ d w. under-trust _ p (disabled-fewer (eqb→eq (e .third) 0 w)) refl refl;
       install-executable = λ d w. absurd w;
       delete-executable = λ d w. under-change p (is-executable (e .id)) (λ x. no-executable) (λ x n. absurd (n refl));
       verify = λ d w. absurd w;

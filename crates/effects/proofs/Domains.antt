@@ -6,7 +6,7 @@ use mathlib.Core.Logic.{_≢_}
 use mathlib.Core.Path.{_≡_, refl, sym, ap, ap₂, _∙_}
 use native.Mathlib.Omega.{arith}
 use borrow.Author.Tests.{eq-eqb, ne-eqb}
-use lib.Dec.{T, eqb}
+use lib.Dec.{T, eqb, eqb→eq}
 use lib.ListN.{length, length-map}
 use Rattle.records.specs.Phone.{Trust, Phone, decode, encode, with-executables, in-domain, executable-at, put-executable}
 use Rattle.records.specs.Frame.{Framed}
@@ -14,7 +14,7 @@ use Rattle.records.specs.declared.Executable.{Executable}
 use Rattle.rules.specs.Chains.{chains-to}
 use Rattle.rules.specs.Effects.{settled, settle}
 use Rattle.rules.proofs.Accepts.{T-true}
-use Rattle.rules.proofs.Tests.{is, isnt, by-test}
+use Rattle.rules.proofs.Tests.{neqb→ne, by-test}
 use Rattle.chain.specs.Keys.{chained-in}
 use Rattle.effects.proofs.Parts.{executables, says, framed-as}
 use Rattle.effects.proofs.Sweeps.{Sweeping, sweep-goes-on, sweep-skips-to}
@@ -61,11 +61,11 @@ module _ (t : Trust) where
   own-turn : (d : ℕ) (x : Executable) → (x .domain ≢ 0 → x .domain ≢ d → T (chains-to t (x .signing) (x .domain))) → settled-in d t x ≡ settled t x
   unfolding settled-in
   own-turn d x h =
-      by-test (eqb (x .domain) 0) (λ y. let e = is (x .domain) 0 y in unlost x e (chained-in d t x) ∙ none x e)
+      by-test (eqb (x .domain) 0) (λ y. let e = eqb→eq (x .domain) 0 y in unlost x e (chained-in d t x) ∙ none x e)
       (λ n.
-      let z = isnt (x .domain) 0 n in
-      by-test (eqb (x .domain) d) (λ y. let e = is (x .domain) d y in own d x e (λ q. z (e ∙ q)))
-      (λ m. let o = isnt (x .domain) d m in other d x o ∙ sym (kept x z (h z o))))
+      let z = neqb→ne (x .domain) 0 n in
+      by-test (eqb (x .domain) d) (λ y. let e = eqb→eq (x .domain) d y in own d x e (λ q. z (e ∙ q)))
+      (λ m. let o = neqb→ne (x .domain) d m in other d x o ∙ sym (kept x z (h z o))))
 
   turns : (x : Executable) → x .domain ≤ 3 → settled-in 3 t (settled-in 2 t (settled-in 1 t x)) ≡ settled t x
   turns x h = go (x .domain) refl h

@@ -4,7 +4,7 @@ use mathlib.Core.Bool.{Bool, true, false, cond, _&&_}
 use mathlib.Core.List.{List, map, map-map, map-congr-left}
 use mathlib.Core.Path.{_≡_, refl, sym, ap, _∙_, subst}
 use native.Mathlib.Omega.{arith}
-use lib.Dec.{T}
+use lib.Dec.{T, eqb→eq}
 use lib.ListN.{length, getD, length-map, List·getD-map}
 use Rattle.records.specs.Phone.{decode, encode, no-certificate, certificate-at, with-certificates, put-certificate, marked}
 use Rattle.records.specs.Frame.{Framed}
@@ -13,7 +13,6 @@ use Rattle.records.specs.declared.Event.{Event}
 use Rattle.rules.specs.Words.{at, distinct}
 use Rattle.rules.specs.Codes.{has-id, certificate-named}
 use Rattle.rules.specs.Effects.{phone-operator-root, on-a-card, after-marking, mark-valid}
-use Rattle.rules.proofs.Tests.{is}
 use Rattle.rules.proofs.Slots.{set-is}
 use Rattle.lookup.specs.Places.{first-place}
 use Rattle.opening.specs.Opened.{Accepted-image}
@@ -84,7 +83,7 @@ module _ {s : List ℕ} {slot : ℕ} (e : Event) (a : Accepted-image s) (place :
   retired-id =
       let l = decode s .trust .certificates in
       ap (λ c. c .id) (List·getD-map (retire true 0) l slot no-certificate) ∙ retire-keeps-id (getD l slot no-certificate)
-      ∙ is (getD l slot no-certificate .id) (e .id) (passes-there (has-id (e .id)) no-certificate l slot place there)
+      ∙ eqb→eq (getD l slot no-certificate .id) (e .id) (passes-there (has-id (e .id)) no-certificate l slot place there)
 
   pub marks-after-retiring : {s₁ s′ : List ℕ} {c : Certificate} → c ≡ certificate-at (decode s) slot → on-a-card c ≡ true
       → s₁ ≡ encode (with-certificates (map (retire true 0) (decode s .trust .certificates)) (decode s))

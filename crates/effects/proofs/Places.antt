@@ -5,12 +5,11 @@ use mathlib.Core.List.{List, [], _∷_, map}
 use mathlib.Core.Path.{_≡_, sym, ap, _∙_, subst}
 use native.Mathlib.Nat.{le-of-suc-le-suc, not-suc-le-zero}
 use native.Mathlib.Omega.{arith}
-use lib.Dec.{T, eqb}
+use lib.Dec.{T, eqb, eqb→eq}
 use lib.ListN.{length, getD, set}
 use Rattle.records.specs.Phone.{decode, encode}
 use Rattle.records.specs.Frame.{Framed}
 use Rattle.rules.specs.Words.{change, find, fill, distinct}
-use Rattle.rules.proofs.Tests.{is}
 use Rattle.rules.proofs.Slots.{set-is, fill-is, find-is}
 use Rattle.lookup.specs.Places.{first-place}
 use Rattle.opening.specs.Opened.{Accepted-image}
@@ -55,7 +54,7 @@ module _ {A : Type 0} (t : A → Bool) (d : A) where
 pub change-there : {A : Type 0} (i : A → ℕ) (n : ℕ) (f : A → A) (d : A) (l : List A) (k : ℕ)
     → k ≡ first-place (λ x. eqb (i x) n) l → k < length l → 0 < n → T (distinct (map i l)) → change (λ x. eqb (i x) n) f l ≡ set l k (f (getD l k d))
 change-there i n f d l k e h nz u =
-    set-is i n f d l k h (is (i (getD l k d)) n (passes-there (λ x. eqb (i x) n) d l k e h)) (λ z. omega arith) u
+    set-is i n f d l k h (eqb→eq (i (getD l k d)) n (passes-there (λ x. eqb (i x) n) d l k e h)) (λ z. omega arith) u
 
 -- ---- in an image
 

@@ -20,7 +20,7 @@ use Rattle.rules.specs.Forms.{new-certificate, with-kind, forms, no-form, id-fo
 use Rattle.rules.specs.Codes.{code-of}
 use Rattle.rules.specs.Effects.{effect, power-up, card-out, card-in, card-rule, install-certificate, settle, changed}
 use Rattle.rules.specs.Step.{refused, done}
-use Rattle.rules.proofs.Tests.{si}
+use Rattle.rules.proofs.Tests.{eq→eqb}
 use Rattle.rules.proofs.Accepted.{Accepted}
 use Rattle.rules.proofs.Accepts.{accepted-out}
 use Rattle.demands.proofs.Told.{told as told-of-code, id-formed, action-formed}
@@ -88,12 +88,12 @@ power-up-programs e p = go (eqb (e .second) 0)
 -- the event that is done names an id: its form says so
 pub named-id : (p : Phone) (e : Event) (k r : ℕ) → r ≡ code-of p (with-kind k e) → r ≡ 0 → (T (getD forms k no-form p (with-kind k e)) → T (id-form p (with-kind k e))) → 0 < e .id
 named-id p e k r c h f =
-    let z = id-formed p (with-kind k e) (f (told-of-code p (with-kind k e) (si _ 0 (sym c ∙ h)) .formed)) in
+    let z = id-formed p (with-kind k e) (f (told-of-code p (with-kind k e) (eq→eqb _ 0 (sym c ∙ h)) .formed)) in
     omega arith
 
 pub acted-id : (p : Phone) (e : Event) (k r : ℕ) → r ≡ code-of p (with-kind k e) → r ≡ 0 → (T (getD forms k no-form p (with-kind k e)) → T (action-form p (with-kind k e))) → 0 < e .id
 acted-id p e k r c h f =
-    let z = action-formed p (with-kind k e) (f (told-of-code p (with-kind k e) (si _ 0 (sym c ∙ h)) .formed)) .0 in
+    let z = action-formed p (with-kind k e) (f (told-of-code p (with-kind k e) (eq→eqb _ 0 (sym c ∙ h)) .formed)) .0 in
     omega arith
 
 pub installed : (l : List ℕ) (e : Event) (c : Certificate) (m : ℕ) → c ≡ new-certificate m e → m ≡ decode l .mode → (l₁ : List ℕ)

@@ -4,7 +4,7 @@ use mathlib.Core.List.{List·Memᴰ, Memᴰ·map}
 use mathlib.Core.Logic.{_≢_}
 use mathlib.Core.Path.{_≡_, refl, sym, ap, subst, _∙_}
 use native.Mathlib.Omega.{arith}
-use lib.Dec.{T}
+use lib.Dec.{T, eqb→eq}
 use Rattle.records.specs.Phone.{Trust, Phone, no-certificate, marked, with-certificates}
 use Rattle.records.specs.declared.Certificate.{Certificate}
 use Rattle.records.specs.declared.Event.{Event}
@@ -18,7 +18,6 @@ use Rattle.rules.proofs.Accepted.{Accepted}
 use Rattle.rules.proofs.Changes.{at-cases}
 use Rattle.rules.proofs.Keys.{Key, by-root, by-issued}
 use Rattle.rules.proofs.Shortest.{chains-key, chains-signed, key-chains}
-use Rattle.rules.proofs.Tests.{is}
 use Rattle.demands.proofs.Told.{certificate-named-alone}
 use Rattle.effects.specs.Sweeps.{settle-in}
 use Rattle.effects.proofs.Domains.{settle-own}
@@ -55,7 +54,7 @@ module _ (p : Phone) (ok : Accepted p) (n : ℕ) (nz : n ≢ 0) (f : Certificate
       (Memᴰ·map (at (has-id n) f) m)
     where
       mine : T (has-id n c) → c .domain ≡ own
-      mine t = ap (λ x. x .domain) (sym (certificate-named-alone p n c (ok .trust .held) nz (record { mem = m; id = is (c .id) n t })))
+      mine t = ap (λ x. x .domain) (sym (certificate-named-alone p n c (ok .trust .held) nz (record { mem = m; id = eqb→eq (c .id) n t })))
 
   others : (d : ℕ) → d ≢ own → Fewer-in d (p .trust) (after .trust)
   others d h =

@@ -5,7 +5,7 @@ use mathlib.Core.List.{List, map, List·Memᴰ, Memᴰ·map, Memᴰ·of-map}
 use mathlib.Core.Logic.{_≢_, _⊎_, inl, inr}
 use mathlib.Core.Path.{_≡_, refl, sym, ap, subst, _∙_}
 use native.Mathlib.Omega.{arith}
-use lib.Dec.{T, eqb}
+use lib.Dec.{T, eqb, eqb→eq}
 use Rattle.bits.specs.Bits.{set-bit, clear-bit}
 use Rattle.records.specs.Phone.{Phone, no-certificate, no-executable, permitted, marked, enabling, with-clock, with-card, with-certificates}
 use Rattle.records.specs.declared.Certificate.{Certificate}
@@ -18,7 +18,7 @@ use Rattle.rules.specs.Forms.{with-kind, new-certificate}
 use Rattle.rules.specs.Codes.{is-executable, certificate-named}
 use Rattle.rules.specs.Effects.{effect, changed, settle, retired, phone-operator-root, card-rule, card-in, tick, install-certificate, on-a-card, after-marking, mark-valid, enabled-by, message, install-executable, delete-executable, give, withdraw, request}
 use Rattle.rules.proofs.Accepted.{Occupied, Accepted}
-use Rattle.rules.proofs.Tests.{tests, or-cases, is, si, by-test}
+use Rattle.rules.proofs.Tests.{tests, or-cases, eq→eqb, by-test}
 use Rattle.rules.proofs.Lists.{fill-out, none-out}
 use Rattle.rules.proofs.Changes.{at-cases}
 use Rattle.demands.proofs.Order.{Fewer, fewer-chains}
@@ -83,7 +83,7 @@ module _ (p : Phone) (ok : Accepted p) where
     no-mark c m o = go (ok .trust .held .slots c m)
       where
         none : c .mark ≡ 1 → ⊥
-        none e = let a : T (eqb (c .mark) 1) = si (c .mark) 1 e in none-out (λ x. valid-in 1 (p .trust .seen .clock) x && eqb (x .place) 0) (p .trust .certificates) unmarked c m (search tests)
+        none e = let a : T (eqb (c .mark) 1) = eq→eqb (c .mark) 1 e in none-out (λ x. valid-in 1 (p .trust .seen .clock) x && eqb (x .place) 0) (p .trust .certificates) unmarked c m (search tests)
 
         go : (c ≡ no-certificate) ⊎ Occupied c → c .mark ≡ 0
         go (inl e) = ap (λ x. x .mark) e
@@ -102,12 +102,12 @@ module _ (p : Phone) (ok : Accepted p) where
     unfolding present
     come-present c h =
         let e : c .place ≡ 0 = go (or-cases (eqb (c .place) 0) (eqb (c .place) (p .trust .seen .card)) h) in
-        let a : T (eqb (c .place) 0) = si (c .place) 0 e in
+        let a : T (eqb (c .place) 0) = eq→eqb (c .place) 0 e in
         search tests
       where
         go : T (eqb (c .place) 0) ⊎ T (eqb (c .place) (p .trust .seen .card)) → c .place ≡ 0
-        go (inl a) = is (c .place) 0 a
-        go (inr b) = is (c .place) (p .trust .seen .card) b ∙ none
+        go (inl a) = eqb→eq (c .place) 0 a
+        go (inr b) = eqb→eq (c .place) (p .trust .seen .card) b ∙ none
 
     come-kept : (c : Certificate) → Narrows (p .trust .seen) (with-card n p .trust .seen) c c
     unfolding trusted-root link
@@ -130,8 +130,8 @@ module _ (p : Phone) (ok : Accepted p) where
     where
       kept : T (third-party-root c) → c .enabled ≡ 1 → enabled-by e c ≡ 1
       kept t m =
-          let a : T (eqb (c .enabled) 1) = si (c .enabled) 1 m in
-          by-test (eqb (enabled-by e c) 1) (λ y. is (enabled-by e c) 1 y) (λ n. absurd (h (search tests)))
+          let a : T (eqb (c .enabled) 1) = eq→eqb (c .enabled) 1 m in
+          by-test (eqb (enabled-by e c) 1) (λ y. eqb→eq (enabled-by e c) 1 y) (λ n. absurd (h (search tests)))
 
   message-fewer : (e : Event) → T (not (any (disables e) (p .trust .certificates))) → Fewer (p .trust) (message e p .trust)
   unfolding message

@@ -5,10 +5,10 @@ use mathlib.Core.List.{List, [], _∷_, map, List·Memᴰ, List·Memᴰ·head, L
 use mathlib.Core.Logic.{_⊎_, inl, inr}
 use mathlib.Core.Path.{_≡_, refl, subst, sym}
 use native.Mathlib.Omega.{arith}
-use lib.Dec.{T, T-not, eqb, ltb, ltb→lt, lt→ltb, nltb→le, not-T}
+use lib.Dec.{T, T-not, eqb, ltb, ltb→lt, lt→ltb, nltb→le, not-T, eqb→eq}
 use lib.ListN.{length}
 use Rattle.records.specs.declared.Certificate.{Certificate}
-use Rattle.rules.proofs.Tests.{tests, is, isnt, and-i, by-test}
+use Rattle.rules.proofs.Tests.{tests, neqb→ne, and-i, by-test}
 use Rattle.explanations.specs.Why.{lowest, by-id}
 use Rattle.explanations.specs.Claims.{count, Rising}
 use Rattle.explanations.proofs.Lowest.{cond-cases, Found, lowest-found, lowest-least}
@@ -59,7 +59,7 @@ module _ (t : Certificate → Bool) (l : List Certificate) where
   by-id-rising (suc k) n =
       let c = lowest t n l in
       cond-cases (λ s. Rising n (map (λ c. c .id) s)) (eqb (c .id) 0) [] (c ∷ by-id k t (c .id) l)
-      (λ z. tt) (λ z. (lowest-found t n l (isnt (c .id) 0 z) .above, by-id-rising k (c .id)))
+      (λ z. tt) (λ z. (lowest-found t n l (neqb→ne (c .id) 0 z) .above, by-id-rising k (c .id)))
 
   pub by-id-small : (k n : ℕ) → length (by-id k t n l) ≤ k
   unfolding by-id
@@ -75,7 +75,7 @@ module _ (t : Certificate → Bool) (l : List Certificate) where
   by-id-found (suc k) n c m =
       let e = lowest t n l in
       cond-cases (λ s. List·Memᴰ c s → Found t n l c) (eqb (e .id) 0) [] (e ∷ by-id k t (e .id) l)
-      (λ z m. absurd (List·Memᴰ·not-nil m)) (λ z m. go e (lowest-found t n l (isnt (e .id) 0 z)) (by-id-found k (e .id) c) (List·Memᴰ·cases-cons m)) m
+      (λ z m. absurd (List·Memᴰ·not-nil m)) (λ z m. go e (lowest-found t n l (neqb→ne (e .id) 0 z)) (by-id-found k (e .id) c) (List·Memᴰ·cases-cons m)) m
     where
       go : (e : Certificate) → Found t n l e → (List·Memᴰ c (by-id k t (e .id) l) → Found t (e .id) l c)
           → (c ≡ e) ⊎ List·Memᴰ c (by-id k t (e .id) l) → Found t n l c
@@ -105,7 +105,7 @@ module _ (t : Certificate → Bool) (l : List Certificate) where
       let later : e .id < c .id → Listed (by-id k t (e .id) l) (c .id) =
       (λ a. all-listed k (e .id) (omega (arith, fewer-above n e g)) c (record { mem = f .mem; passes = f .passes; above = a })) in
       cond-cases (λ s. Listed s (c .id)) (eqb (e .id) 0) [] (e ∷ by-id k t (e .id) l)
-      (λ z. absurd (low .0 (is (e .id) 0 z)))
+      (λ z. absurd (low .0 (eqb→eq (e .id) 0 z)))
       (λ z. by-test (ltb (e .id) (c .id))
       (λ a. let r = later (ltb→lt (e .id) (c .id) a) in record { certificate = r .certificate; mem = List·Memᴰ·tail (r .mem); id = r .id })
       (λ a. record { certificate = e; mem = List·Memᴰ·head refl; id = omega (arith, low .1, nltb→le (e .id) (c .id) a) }))

@@ -4,14 +4,14 @@ use mathlib.Core.Bool.{Bool, true, false, not, _&&_}
 use mathlib.Core.List.{List, [], _∷_}
 use mathlib.Core.Logic.{_⊎_, inl, inr, _≢_}
 use mathlib.Core.Path.{_≡_, refl, sym, _∙_}
-use lib.Dec.{T, T-not, eqb}
+use lib.Dec.{T, T-not, eqb, eqb→eq}
 use Rattle.records.specs.Phone.{Trust}
 use Rattle.records.specs.declared.Executable.{Executable}
 use Rattle.records.specs.declared.Certificate.{Certificate}
 use Rattle.rules.specs.Words.{any}
 use Rattle.rules.specs.Chains.{chains-to, chain-domain, most-links}
 use Rattle.rules.specs.Explicit.{Chain, ends, goes-on, Chain-within}
-use Rattle.rules.proofs.Tests.{is, si, isnt, tnsi, not-elim}
+use Rattle.rules.proofs.Tests.{eq→eqb, neqb→ne, ne→neqb, not-elim}
 use Rattle.rules.proofs.Lists.{any-in}
 use Rattle.rules.proofs.Shortest.{chains-signed, chains-chain, chain-chains}
 use Rattle.rules.proofs.Domain.{chain-found, chain-domain-is}
@@ -25,8 +25,8 @@ use Rattle.explanations.proofs.Lowest.{cond-cases}
 
 -- a chain's first record has its key
 chain-held : (t : Trust) {d k : ℕ} {l : List Certificate} → Chain t d k l → T (any (has-key k) (t .certificates))
-chain-held t (ends {k} r) = any-in (has-key k) (r .mem) (si (r .certificate .key) k (r .key))
-chain-held t (goes-on {k} s c) = any-in (has-key k) (s .mem) (si (s .certificate .key) k (s .key))
+chain-held t (ends {k} r) = any-in (has-key k) (r .mem) (eq→eqb (r .certificate .key) k (r .key))
+chain-held t (goes-on {k} s c) = any-in (has-key k) (s .mem) (eq→eqb (s .certificate .key) k (s .key))
 
 exactly-one : (a b c : Bool) → (T a → T (not b)) → (T a → T c) → count (λ b. b) (a ∷ b ∷ (not b && not c) ∷ (not b && c && not a) ∷ []) ≡ 1
 exactly-one true true c f g = absurd (f tt)
@@ -42,7 +42,7 @@ found-chains : (t : Trust) (k : ℕ) → T (not (eqb (chain-domain t k) 0)) → 
 found-chains t k c = go (chain-found t k)
   where
     go : (chain-domain t k ≡ 0) ⊎ T (chains-to t k (chain-domain t k)) → T (chains-to t k (chain-domain t k))
-    go (inl z) = absurd (isnt (chain-domain t k) 0 c z)
+    go (inl z) = absurd (neqb→ne (chain-domain t k) 0 c z)
     go (inr h) = h
 
 module _ (t : Trust) (x : Executable) where
@@ -54,7 +54,7 @@ module _ (t : Trust) (x : Executable) where
 
   chained-signed : T (chained t x) → T (not (unsigned x))
   unfolding unsigned
-  chained-signed c = tnsi (x .signing) 0 (chains-signed t (x .signing) (its-domain t x) (chained-chains c))
+  chained-signed c = ne→neqb (x .signing) 0 (chains-signed t (x .signing) (its-domain t x) (chained-chains c))
 
   chained-held : T (chained t x) → T (held t x)
   unfolding held
@@ -110,10 +110,10 @@ module _ (cards : List Card) (t : Trust) (h : Held cards (t .certificates)) wher
   chained-out x c =
       let d = its-domain t x in
       let g = chained-chains t x c in
-      (d, isnt d 0 c, chains-signed t (x .signing) d g, chains-chain t (x .signing) d g)
+      (d, neqb→ne d 0 c, chains-signed t (x .signing) d g, chains-chain t (x .signing) d g)
 
   pub chained-in : (x : Executable) (d : ℕ) → d ≢ 0 → x .signing ≢ 0 → Chain-within most-links t d (x .signing) → T (chained t x)
   unfolding chained
   chained-in x d nz s w =
       let e = chain-domain-is t (h .keys) (x .signing) d nz (chain-small nz (w .is-chain)) (chain-chains t (x .signing) d s w) in
-      tnsi (its-domain t x) 0 (λ z. nz (sym e ∙ z))
+      ne→neqb (its-domain t x) 0 (λ z. nz (sym e ∙ z))

@@ -5,7 +5,7 @@ use mathlib.Core.List.{List, _∷_, List·Memᴰ}
 use mathlib.Core.Logic.{_≢_, _⊎_, inl, inr}
 use mathlib.Core.Path.{_≡_, refl, sym, ap, subst, _∙_}
 use native.Mathlib.Omega.{arith}
-use lib.Dec.{T, eqb, leb, leb→le, nleb→lt}
+use lib.Dec.{T, eqb, leb, leb→le, nleb→lt, eqb→eq}
 use lib.ListN.{length}
 use Rattle.records.specs.Phone.{Trust}
 use Rattle.records.specs.declared.Card.{Card}
@@ -13,7 +13,7 @@ use Rattle.records.specs.declared.Certificate.{Certificate}
 use Rattle.rules.specs.Words.{least}
 use Rattle.rules.specs.Chains.{trusted-root, link, serves, good, within, chains-to, links, most-links}
 use Rattle.rules.specs.Explicit.{Chain, ends, goes-on, Shortest}
-use Rattle.rules.proofs.Tests.{tests, is, or-cases, by-test}
+use Rattle.rules.proofs.Tests.{tests, or-cases, by-test}
 use Rattle.rules.proofs.Lists.{any-in, any-out}
 use Rattle.rules.proofs.Least.{least-small, least-passes, least-least}
 use Rattle.rules.proofs.Keys.{served}
@@ -128,7 +128,7 @@ module _ (cards : List Card) (t : Trust) (h : Held cards (t .certificates)) (d :
 
   counted : (k : ℕ) → links t k d ≡ least most-links (λ n. within n t k d)
   unfolding links
-  counted k = cond-cases (λ n. n ≡ least most-links (λ n. within n t k d)) (eqb d 0) _ _ (λ z. absurd (trusted (is d 0 z))) (λ z. refl)
+  counted k = cond-cases (λ n. n ≡ least most-links (λ n. within n t k d)) (eqb d 0) _ _ (λ z. absurd (trusted (eqb→eq d 0 z))) (λ z. refl)
 
   links-least : (k : ℕ) → T (chains-to t k d) → Served-least (links t k d) k
   unfolding within chains-to

@@ -5,10 +5,11 @@ use mathlib.Core.Logic.{_≢_}
 use mathlib.Core.Path.{_≡_, refl, sym, _∙_}
 use native.Mathlib.Omega.{arith}
 use lib.ListN.{length}
+use lib.Dec.{eqb→eq}
 use Rattle.records.specs.Phone.{Trust}
 use Rattle.records.specs.declared.Card.{Card}
 use Rattle.records.specs.declared.Certificate.{Certificate}
-use Rattle.rules.proofs.Tests.{is, si}
+use Rattle.rules.proofs.Tests.{eq→eqb}
 use Rattle.rules.proofs.Distinct.{alone}
 use Rattle.rules.proofs.Accepted.{Held}
 use Rattle.explanations.specs.Why.{has-key, holders}
@@ -28,7 +29,7 @@ pub holders-out : (t : Trust) (k : ℕ) (c : Certificate) → List·Memᴰ c (ho
 unfolding holders
 holders-out t k c m =
     let f = by-id-found (has-key k) (t .certificates) (length (t .certificates)) 0 c m in
-    (f .mem, is (c .key) k (f .passes))
+    (f .mem, eqb→eq (c .key) k (f .passes))
 
 -- one with its id is listed, and no other has its id
 pub holders-in : (cards : List Card) (t : Trust) → Held cards (t .certificates) → (k : ℕ) → k ≢ 0
@@ -36,6 +37,6 @@ pub holders-in : (cards : List Card) (t : Trust) → Held cards (t .certificates
 unfolding holders
 holders-in cards t h k signed c m e =
     let o = occupied cards t h (λ c. c .key) refl c m (λ z. signed (sym e ∙ z)) in
-    let g = by-id-all (has-key k) (t .certificates) 0 c (record { mem = m; passes = si (c .key) k e; above = omega (arith, o .id) }) in
+    let g = by-id-all (has-key k) (t .certificates) 0 c (record { mem = m; passes = eq→eqb (c .key) k e; above = omega (arith, o .id) }) in
     let one = alone (λ c. c .id) (t .certificates) (h .ids) c (g .certificate) m in
     Memᴰ·cast (one (holders-out t k (g .certificate) (g .mem) .0) (o .id) (sym (g .id))) (g .mem)

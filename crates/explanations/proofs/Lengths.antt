@@ -3,13 +3,13 @@ use Prim.Native.Nat.{ℕ, suc, _≤_}
 use mathlib.Core.Bool.{not}
 use mathlib.Core.List.{List, [], _∷_, List·Memᴰ, List·Memᴰ·head, List·Memᴰ·tail}
 use native.Mathlib.Omega.{arith}
-use lib.Dec.{T, eqb}
+use lib.Dec.{T, eqb, eqb→eq}
 use lib.ListN.{length, length-append, length-map, length-reverse}
 use Rattle.records.specs.Phone.{Trust}
 use Rattle.records.specs.declared.Card.{Card}
 use Rattle.records.specs.declared.Executable.{Executable}
 use Rattle.rules.specs.Chains.{most-links}
-use Rattle.rules.proofs.Tests.{is, isnt}
+use Rattle.rules.proofs.Tests.{neqb→ne}
 use Rattle.rules.proofs.Lists.{any-out}
 use Rattle.rules.proofs.Accepted.{Held}
 use Rattle.explanations.specs.Why.{has-key, holders, its-domain, untrusted-line, chained, unsigned, held, despite, chain-lines, explained}
@@ -31,7 +31,7 @@ module _ (cards : List Card) (t : Trust) (h : Held cards (t .certificates)) (x :
   unfolding chained
   chain-length c =
       let d = its-domain t x in
-      let a = told-length cards t h d (isnt d 0 c) (x .signing) (chained-chains t x c) in
+      let a = told-length cards t h d (neqb→ne d 0 c) (x .signing) (chained-chains t x c) in
       simp (length-append, length-map, length-reverse) (omega (arith, a .0), omega (arith, a .1, despite-long x))
 
   pub explained-some : 1 ≤ length (explained t x)
@@ -42,7 +42,7 @@ module _ (cards : List Card) (t : Trust) (h : Held cards (t .certificates)) (x :
       reasons : T (not (unsigned x)) → T (held t x) → 1 ≤ length (holders t (x .signing))
       reasons s y =
           let e = any-out (has-key (x .signing)) (t .certificates) y in
-          mem-long (holders-in cards t h (x .signing) (isnt (x .signing) 0 s) (e .it) (e .mem) (is (e .it .key) (x .signing) (e .passes)))
+          mem-long (holders-in cards t h (x .signing) (neqb→ne (x .signing) 0 s) (e .it) (e .mem) (eqb→eq (e .it .key) (x .signing) (e .passes)))
 
   pub explained-few : (n : ℕ) → suc most-links ≤ n → length (t .certificates) ≤ n → length (explained t x) ≤ n
   explained-few n five slots =

@@ -5,9 +5,9 @@ use mathlib.Core.List.{List, [], _∷_, List·Memᴰ, List·Memᴰ·head, List·
 use mathlib.Core.Logic.{_≢_, _⊎_, inl, inr}
 use mathlib.Core.Path.{_≡_, refl, ap, subst}
 use native.Mathlib.Omega.{arith}
-use lib.Dec.{T, eqb, ltb, ltb→lt, lt→ltb, nltb→le}
+use lib.Dec.{T, eqb, ltb, ltb→lt, lt→ltb, nltb→le, eqb→eq}
 use Rattle.records.specs.declared.Certificate.{Certificate}
-use Rattle.rules.proofs.Tests.{tests, is, isnt, and-i, or-cases, nand, nor-l, nor-r}
+use Rattle.rules.proofs.Tests.{tests, neqb→ne, and-i, or-cases, nand, nor-l, nor-r}
 use Rattle.explanations.specs.Why.{goes-before, lowest}
 
 -- both ways of a choice, with the fact
@@ -26,14 +26,14 @@ module _ (t : Certificate → Bool) (n : ℕ) where
   before-out c m h = (search tests, ltb→lt n (c .id) (search tests), λ nz. go nz (or-cases (eqb (m .id) 0) (ltb (c .id) (m .id)) (search tests)))
     where
       go : m .id ≢ 0 → T (eqb (m .id) 0) ⊎ T (ltb (c .id) (m .id)) → c .id < m .id
-      go nz (inl z) = absurd (nz (is (m .id) 0 z))
+      go nz (inl z) = absurd (nz (eqb→eq (m .id) 0 z))
       go nz (inr s) = ltb→lt (c .id) (m .id) s
 
   before-not : (c m : Certificate) → T (not (goes-before t n c m)) → T (t c) → n < c .id → (m .id ≢ 0) × (m .id ≤ c .id)
   before-not c m h p a =
       let b : T (t c && ltb n (c .id)) = and-i (t c) (ltb n (c .id)) p (lt→ltb n (c .id) a) in
       let g = nand (t c && ltb n (c .id)) (eqb (m .id) 0 || ltb (c .id) (m .id)) h b in
-      (isnt (m .id) 0 (nor-l (eqb (m .id) 0) (ltb (c .id) (m .id)) g), nltb→le (c .id) (m .id) (nor-r (eqb (m .id) 0) (ltb (c .id) (m .id)) g))
+      (neqb→ne (m .id) 0 (nor-l (eqb (m .id) 0) (ltb (c .id) (m .id)) g), nltb→le (c .id) (m .id) (nor-r (eqb (m .id) 0) (ltb (c .id) (m .id)) g))
 
   pub lowest-found : (l : List Certificate) → lowest t n l .id ≢ 0 → Found l (lowest t n l)
   unfolding lowest

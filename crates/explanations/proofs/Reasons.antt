@@ -5,13 +5,13 @@ use mathlib.Core.List.{List, [], _∷_, List·Memᴰ}
 use mathlib.Core.Logic.{_≢_, _⊎_, inl, inr}
 use mathlib.Core.Path.{_≡_, refl, ap, _∙_}
 use native.Mathlib.Omega.{arith}
-use lib.Dec.{T, eqb}
+use lib.Dec.{T, eqb, eqb→eq}
 use Rattle.records.specs.Phone.{Trust, no-certificate}
 use Rattle.records.specs.declared.Card.{Card}
 use Rattle.records.specs.declared.Certificate.{Certificate}
 use Rattle.rules.specs.Words.{any, Check, _⇒_, first}
 use Rattle.rules.specs.Chains.{present, in-date, valid-root, trusted-root, link, serves, good, within, chains-to, chain-domain, most-links}
-use Rattle.rules.proofs.Tests.{tests, is, si, isnt, by-test, not-elim, first-out}
+use Rattle.rules.proofs.Tests.{tests, eq→eqb, neqb→ne, by-test, not-elim, first-out}
 use Rattle.rules.proofs.Lists.{any-in}
 use Rattle.rules.proofs.Accepted.{Occupied, Held}
 use Rattle.rules.proofs.Domain.{chain-domain-is}
@@ -28,13 +28,13 @@ first-is ((false ⇒ n) ∷ l) h = later tt (first-is l h)
 no-reason : (t : Trust) (c : Certificate) → Occupied c → reason t c ≡ 0 → T (good most-links t c)
 unfolding reason good link trusted-root valid-root
 no-reason t c o z =
-    let w = first-out (reasons t c) tt (si (reason t c) 0 z) in
+    let w = first-out (reasons t c) tt (eq→eqb (reason t c) 0 z) in
     let here : T (present (t .seen) c) = not-elim (present (t .seen) c) (w .0) in
-    let marked : c .mark ≡ 1 = omega (arith, isnt (c .mark) 0 (w .1 .0), o .mark) in
-    let on : c .enabled ≡ 1 = omega (arith, isnt (c .enabled) 0 (w .1 .1 .0), o .enabled) in
+    let marked : c .mark ≡ 1 = omega (arith, neqb→ne (c .mark) 0 (w .1 .0), o .mark) in
+    let on : c .enabled ≡ 1 = omega (arith, neqb→ne (c .enabled) 0 (w .1 .1 .0), o .enabled) in
     let dated : T (in-date (t .seen .clock) c) = not-elim (in-date (t .seen .clock) c) (w .1 .1 .1 .0) in
     let verified : T (signed t c) = not-elim (signed t c) (w .1 .1 .1 .1 .0) in
-    by-test (eqb (c .kind) 0) (λ root. search tests) (λ nr. let issued : c .kind ≡ 1 = omega (arith, isnt (c .kind) 0 nr, o .kind) in search tests)
+    by-test (eqb (c .kind) 0) (λ root. search tests) (λ nr. let issued : c .kind ≡ 1 = omega (arith, neqb→ne (c .kind) 0 nr, o .kind) in search tests)
 
 module _ (cards : List Card) (t : Trust) (h : Held cards (t .certificates)) where
   -- a slot of which something is not 0 is occupied
@@ -55,5 +55,5 @@ module _ (cards : List Card) (t : Trust) (h : Held cards (t .certificates)) wher
   pub reason-some : (c : Certificate) → List·Memᴰ c (t .certificates) → c .key ≢ 0 → chain-domain t (c .key) ≡ 0 → reason t c ≢ 0
   reason-some c m nz none z =
       let o = occupied (λ c. c .key) refl c m nz in
-      let is = chain-domain-is t (h .keys) (c .key) (c .domain) (omega (arith, o .domain .0)) (o .domain .1) (good-chains c m (no-reason t c o z) nz) in
+      let eqb→eq = chain-domain-is t (h .keys) (c .key) (c .domain) (omega (arith, o .domain .0)) (o .domain .1) (good-chains c m (no-reason t c o z) nz) in
       omega (arith, o .domain .0)

@@ -5,13 +5,13 @@ use mathlib.Core.List.{List, [], _∷_, List·Memᴰ, List·Memᴰ·not-nil, Lis
 use mathlib.Core.Logic.{_≢_, _⊎_, inl, inr}
 use mathlib.Core.Path.{_≡_, refl, sym, ap, subst, _∙_}
 use native.Mathlib.Omega.{arith}
-use lib.Dec.{T, eqb}
+use lib.Dec.{T, eqb, eqb→eq}
 use Rattle.records.specs.Phone.{Trust}
 use Rattle.records.specs.declared.Card.{Card}
 use Rattle.records.specs.declared.Certificate.{Certificate}
 use Rattle.records.specs.declared.Executable.{Executable}
 use Rattle.rules.specs.Chains.{chain-domain}
-use Rattle.rules.proofs.Tests.{is, si, isnt, not-elim}
+use Rattle.rules.proofs.Tests.{eq→eqb, neqb→ne, not-elim}
 use Rattle.rules.proofs.Lists.{any-in}
 use Rattle.rules.proofs.Accepted.{Held}
 use Rattle.explanations.specs.Why.{Line, has-key, holders, its-domain, its-chain, reasons, reason, link-line, reason-line, untrusted-line}
@@ -42,7 +42,7 @@ module _ (cards : List Card) (t : Trust) (h : Held cards (t .certificates)) (x :
   unfolding chained unsigned
   refusal-some s n c m e =
       let d = its-domain t x in
-      reason-some cards t h c m (λ z. isnt (x .signing) 0 s (sym e ∙ z)) (ap (chain-domain t) e ∙ is d 0 (not-elim (eqb d 0) n))
+      reason-some cards t h c m (λ z. neqb→ne (x .signing) 0 s (sym e ∙ z)) (ap (chain-domain t) e ∙ eqb→eq d 0 (not-elim (eqb d 0) n))
 
   refusal-of : T (not (unsigned x)) → T (not (chained t x)) → (n : Line) → List·Memᴰ n (reason-lines t x) → Refusal t (x .signing) n
   unfolding reason
@@ -70,6 +70,6 @@ module _ (cards : List Card) (t : Trust) (h : Held cards (t .certificates)) (x :
       → List·Memᴰ (reason-line t c) (explained t x)
   unfolding unsigned held
   refusal-each s n c m e =
-      let y = any-in (has-key (x .signing)) m (si (c .key) (x .signing) e) in
+      let y = any-in (has-key (x .signing)) m (eq→eqb (c .key) (x .signing) e) in
       subst (λ l. List·Memᴰ (reason-line t c) l) (sym (explained-reasons t x s y n))
-      (Memᴰ·map (reason-line t) (holders-in cards t h (x .signing) (isnt (x .signing) 0 s) c m e))
+      (Memᴰ·map (reason-line t) (holders-in cards t h (x .signing) (neqb→ne (x .signing) 0 s) c m e))

@@ -7,7 +7,7 @@ use mathlib.Core.List.{List, [], _∷_, map, List·Memᴰ, map-map}
 use mathlib.Core.Logic.{_≢_, _↔_}
 use mathlib.Core.Path.{_≡_, refl}
 use native.Mathlib.Omega.{arith}
-use lib.Dec.{T, eqb}
+use lib.Dec.{T, eqb, eqb→eq}
 use lib.ListN.{length}
 use Rattle.records.specs.Sizes.{most-certificates}
 use Rattle.records.specs.Phone.{Phone, decode}
@@ -19,7 +19,7 @@ use Rattle.rules.specs.Chains.{links, most-links}
 use Rattle.rules.specs.Explicit.{Chain, Shortest, Chain-within}
 use Rattle.rules.specs.ImageRules.{accepted}
 use Rattle.rules.specs.Codes.{executable-named}
-use Rattle.rules.proofs.Tests.{is, isnt}
+use Rattle.rules.proofs.Tests.{neqb→ne}
 use Rattle.rules.proofs.Accepted.{Accepted}
 use Rattle.rules.proofs.Accepts.{accepted-out}
 use Rattle.rules.proofs.Domain.{one-domain}
@@ -67,8 +67,8 @@ module _ (p : Phone) (ok : Accepted p) (x : Executable) where
   pub why-despite : (x .domain ≡ 0 → despite x ≡ untrusted-line x ∷ []) × (x .domain ≢ 0 → despite x ≡ [])
   unfolding despite
   why-despite = (
-    λ z. cond-cases (λ l. l ≡ untrusted-line x ∷ []) (eqb (x .domain) 0) _ _ (λ e. refl) (λ e. absurd (isnt (x .domain) 0 e z)),
-    λ n. cond-cases (λ l. l ≡ []) (eqb (x .domain) 0) _ _ (λ e. absurd (n (is (x .domain) 0 e))) (λ e. refl),
+    λ z. cond-cases (λ l. l ≡ untrusted-line x ∷ []) (eqb (x .domain) 0) _ _ (λ e. refl) (λ e. absurd (neqb→ne (x .domain) 0 e z)),
+    λ n. cond-cases (λ l. l ≡ []) (eqb (x .domain) 0) _ _ (λ e. absurd (n (eqb→eq (x .domain) 0 e))) (λ e. refl),
   )
 
   -- ==== The reasons
@@ -108,7 +108,7 @@ module _ (p : Phone) (ok : Accepted p) (x : Executable) where
   unfolding chained
   why-chain c =
       let d = its-domain (p .trust) x in
-      told-shortest (p .cards) (p .trust) (ok .trust .held) d (isnt d 0 c) (x .signing) (Cases.chained-chains (p .trust) x c)
+      told-shortest (p .cards) (p .trust) (ok .trust .held) d (neqb→ne d 0 c) (x .signing) (Cases.chained-chains (p .trust) x c)
 
   -- "at each link the lowest certificate id that serves, chosen from the signer up"
   pub why-lowest : T (chained (p .trust) x)
@@ -116,7 +116,7 @@ module _ (p : Phone) (ok : Accepted p) (x : Executable) where
   unfolding chained
   why-lowest c =
       let d = its-domain (p .trust) x in
-      told-lowest (p .cards) (p .trust) (ok .trust .held) d (isnt d 0 c) (x .signing)
+      told-lowest (p .cards) (p .trust) (ok .trust .held) d (neqb→ne d 0 c) (x .signing)
 
   -- so that of all chains as short it is the first in the order of ids
   pub why-foremost : T (chained (p .trust) x) → (l : List Certificate) → Chain (p .trust) (its-domain (p .trust) x) (x .signing) l
@@ -125,7 +125,7 @@ module _ (p : Phone) (ok : Accepted p) (x : Executable) where
   unfolding chained
   why-foremost c =
       let d = its-domain (p .trust) x in
-      told-foremost (p .cards) (p .trust) (ok .trust .held) d (isnt d 0 c) (x .signing)
+      told-foremost (p .cards) (p .trust) (ok .trust .held) d (neqb→ne d 0 c) (x .signing)
 
   -- an executable that has a domain chains to it, and the chain told is of that domain
   pub why-domain : List·Memᴰ x (p .executables) → x .domain ≢ 0 → T (chained (p .trust) x) → x .domain ≡ its-domain (p .trust) x

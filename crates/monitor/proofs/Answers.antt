@@ -22,7 +22,7 @@ use Rattle.rules.specs.Codes.{executable-named, rows, code}
 use Rattle.rules.specs.Effects.{changed}
 use Rattle.rules.specs.declared.Answer.{Answer}
 use Rattle.rules.specs.Step.{refused, refused-at, refusal, done, step, run, answers}
-use Rattle.rules.proofs.Tests.{and-l, and-r, si}
+use Rattle.rules.proofs.Tests.{and-l, and-r, eq→eqb}
 use Rattle.rules.proofs.Accepted.{Accepted}
 use Rattle.rules.proofs.Accepts.{accepted-out}
 use Rattle.rules.proofs.Shortest.{links-small}
@@ -106,7 +106,7 @@ answer-small l v =
     step-cases (λ o. Small (o .answer)) l v
     (λ z.
     let w = code-whole-out l v z in
-    done-small (event-of v) (changed (event-of v) (decode l)) (accepted-changed (decode l) (event-of v) (accepted-out l (w .image) .1) (si _ 0 (w .code))))
+    done-small (event-of v) (changed (event-of v) (decode l)) (accepted-changed (decode l) (event-of v) (accepted-out l (w .image) .1) (eq→eqb _ 0 (w .code))))
     (λ n. refused-small l v)
 
 -- ---- read back from the number

@@ -7,7 +7,7 @@ use mathlib.Core.Path.{_≡_, refl, sym, ap, ap₂, _∙_, subst}
 use native.Mathlib.Nat.{sub-zero}
 use native.Mathlib.Omega.{arith}
 use borrow.Author.Tests.{eq-eqb, ne-eqb}
-use lib.Dec.{eqb}
+use lib.Dec.{eqb, eqb→eq}
 use lib.ListN.{length, take, drop, replicate, length-drop}
 use lib.Seq.{drop-drop, take-all}
 use Rattle.octets.specs.Octets.{put}
@@ -20,7 +20,7 @@ use Rattle.rules.specs.declared.Fault.{Fault}
 use Rattle.rules.specs.ImageRules.{broken, accepted}
 use Rattle.rules.specs.Faults.{fault}
 use Rattle.rules.specs.Step.{refused-at, run, answers}
-use Rattle.rules.proofs.Tests.{by-test, is, isnt}
+use Rattle.rules.proofs.Tests.{by-test, neqb→ne}
 use Rattle.opening.specs.Opened.{Accepted-image, Opened}
 use Rattle.events.specs.Stepped.{Stepped, Stepped-on}
 use Rattle.events.proofs.Steps.{broken-stepped}
@@ -210,8 +210,8 @@ module _ (a : Answer) (out₀ : List ℕ) (n : ℕ) where
 pub counted : (n : ℕ) → (n ≤ event-count n * event-size) × (event-count n * event-size < n + event-size)
 counted n =
     by-test (eqb (n % event-size) 0)
-    (λ t. let z = is (n % event-size) 0 t in let e = count-whole n z in (omega arith, omega arith))
-    (λ t. let z = isnt (n % event-size) 0 t in let e = count-short n z in (omega arith, omega arith))
+    (λ t. let z = eqb→eq (n % event-size) 0 t in let e = count-whole n z in (omega arith, omega arith))
+    (λ t. let z = neqb→ne (n % event-size) 0 t in let e = count-short n z in (omega arith, omega arith))
 
 pub answered-room : (n m : ℕ) → answered n m * answer-size ≤ m
 answered-room n m = omega arith

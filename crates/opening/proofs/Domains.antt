@@ -5,7 +5,7 @@ use mathlib.Core.List.{List, [], _∷_, List·Memᴰ, List·Memᴰ·head, List·
 use mathlib.Core.Logic.{_⊎_, inl, inr}
 use mathlib.Core.Path.{_≡_, refl, sym, ap, _∙_, subst}
 use native.Mathlib.Omega.{arith}
-use lib.Dec.{T, eqb}
+use lib.Dec.{T, eqb, eqb→eq}
 use lib.ListN.{length, take}
 use Rattle.records.specs.Phone.{Trust, Phone, no-executable}
 use Rattle.records.specs.declared.Executable.{Executable}
@@ -18,7 +18,7 @@ use Rattle.rules.proofs.Accepted.{Stored}
 use Rattle.rules.proofs.Accepts.{chained-out}
 use Rattle.rules.proofs.Fits.{executable-out}
 use Rattle.rules.proofs.Lists.{all-out, all-in}
-use Rattle.rules.proofs.Tests.{tests, is, si, isnt, or-cases, or-i, or-j, by-test, same}
+use Rattle.rules.proofs.Tests.{tests, eq→eqb, neqb→ne, or-cases, or-i, or-j, by-test, same}
 use Rattle.rules.proofs.Lowest.{lowest-both, lowest-same}
 use Rattle.rules.proofs.More.{all-and}
 use Rattle.chain.specs.Keys.{chained-in}
@@ -40,21 +40,21 @@ module _ (t : Trust) (x : Executable) where
   own d e h = go (or-cases (not (eqb (x .domain) d)) (chains-to t (x .signing) d) h)
     where
       go : T (not (eqb (x .domain) d)) ⊎ T (chains-to t (x .signing) d) → T (chains-to t (x .signing) (x .domain))
-      go (inl n) = absurd (isnt (x .domain) d n e)
+      go (inl n) = absurd (neqb→ne (x .domain) d n e)
       go (inr c) = subst (λ k. T (chains-to t (x .signing) k)) (sym e) c
 
   each-turn : (d : ℕ) → (d ≡ 0 → ⊥) → T (chained-fits t x) → T (chained-in d t x)
   unfolding chained-in
   each-turn d z h =
       by-test (eqb (x .domain) d)
-      (λ y. let e = is (x .domain) d y in or-j (not (eqb (x .domain) d)) (chains-to t (x .signing) d) (subst (λ k. T (chains-to t (x .signing) k)) e (chained-out t x h (λ q. z (sym e ∙ q)))))
+      (λ y. let e = eqb→eq (x .domain) d y in or-j (not (eqb (x .domain) d)) (chains-to t (x .signing) d) (subst (λ k. T (chains-to t (x .signing) k)) e (chained-out t x h (λ q. z (sym e ∙ q)))))
       (λ n. or-i (not (eqb (x .domain) d)) (chains-to t (x .signing) d) n)
 
   all-turns : x .domain ≤ 3 → T (chained-in 1 t x) → T (chained-in 2 t x) → T (chained-in 3 t x) → T (chained-fits t x)
   all-turns h a b c = go (x .domain) refl h
     where
       go : (d : ℕ) → x .domain ≡ d → d ≤ 3 → T (chained-fits t x)
-      go zero e h = or-i (eqb (x .domain) 0) (chains-to t (x .signing) (x .domain)) (si (x .domain) 0 e)
+      go zero e h = or-i (eqb (x .domain) 0) (chains-to t (x .signing) (x .domain)) (eq→eqb (x .domain) 0 e)
       go (suc zero) e h = or-j (eqb (x .domain) 0) (chains-to t (x .signing) (x .domain)) (own 1 e a)
       go (suc (suc zero)) e h = or-j (eqb (x .domain) 0) (chains-to t (x .signing) (x .domain)) (own 2 e b)
       go (suc (suc (suc zero))) e h = or-j (eqb (x .domain) 0) (chains-to t (x .signing) (x .domain)) (own 3 e c)

@@ -18,7 +18,7 @@ use Rattle.rules.specs.declared.Fault.{Fault}
 use Rattle.rules.specs.ImageRules.{valid-in, known-place, row-fits, i2, i3, i4, i5, i6, i7, i8}
 use Rattle.rules.specs.Parts.{apart, slot-fits, cards-fit, present-known, places-known, i5-with}
 use Rattle.rules.specs.Faults.{lowest, of-certificates, of-executables, certificate-site, executable-site, i3-site, at-rule, no-fault}
-use Rattle.rules.proofs.Tests.{si, or-i, eqb-turn}
+use Rattle.rules.proofs.Tests.{eq→eqb, or-i, eqb-turn}
 use Rattle.rules.proofs.Lists.{all-in}
 use Rattle.rules.proofs.Accepts.{T-true}
 use Rattle.rules.proofs.More.{all-grows}
@@ -39,7 +39,7 @@ spared a b h = rw h
 -- ---- numbers apart: 0 is apart from all, and another from those that it is not
 
 pub zero-apart : {A : Type 0} (f : A → ℕ) (n : ℕ) (l : List A) → n ≡ 0 → true ≡ all (λ y. apart n (f y)) l
-zero-apart f n l z = sym (T-true _ (all-in (λ y. apart n (f y)) l (λ y m. or-i (eqb n 0) (not (eqb n (f y))) (si n 0 z))))
+zero-apart f n l z = sym (T-true _ (all-in (λ y. apart n (f y)) l (λ y m. or-i (eqb n 0) (not (eqb n (f y))) (eq→eqb n 0 z))))
 
 pub not-same : (n m : ℕ) {b : Bool} → n ≢ 0 → b ≡ eqb m n → not b ≡ apart n m
 not-same n m z e = rw (ne-eqb n 0 z) (ap not (e ∙ eqb-turn m n))

@@ -6,7 +6,7 @@ use mathlib.Core.Logic.{_≢_}
 use mathlib.Core.Path.{_≡_, refl, sym, ap, ap₂, subst, _∙_}
 use native.Mathlib.Nat.{zero-add}
 use native.Mathlib.Omega.{arith}
-use lib.Dec.{eqb}
+use lib.Dec.{eqb, eqb→eq}
 use lib.ListN.{length, take, drop, length-append, length-map, length-reverse}
 use lib.Seq.{length-take-le, drop-at}
 use Rattle.octets.specs.Octets.{put}
@@ -16,7 +16,7 @@ use Rattle.records.specs.declared.Certificate.{Certificate}
 use Rattle.records.proofs.Joined.{length-joined}
 use Rattle.records.proofs.Puts.{put-next}
 use Rattle.rules.specs.Chains.{serves, good}
-use Rattle.rules.proofs.Tests.{is, isnt}
+use Rattle.rules.proofs.Tests.{neqb→ne}
 use Rattle.explanations.specs.Why.{Line, link-line, lowest, by-id, climb}
 use Rattle.explanations.proofs.Lowest.{cond-cases}
 use Rattle.explanations.proofs.Climb.{length-climb}
@@ -123,7 +123,7 @@ module _ (t : Certificate → Bool) (l : List Certificate) (n : ℕ) (c : Certif
   by-id-more k m s nz =
       ap (λ m. by-id m t n l) (sym s)
       ∙ cond-cases (λ a. a ≡ lowest t n l ∷ by-id k t (lowest t n l .id) l) (eqb (lowest t n l .id) 0) [] _
-      (λ z. absurd (nz (ap (λ c. c .id) e ∙ is (lowest t n l .id) 0 z))) (λ z. refl)
+      (λ z. absurd (nz (ap (λ c. c .id) e ∙ eqb→eq (lowest t n l .id) 0 z))) (λ z. refl)
       ∙ ap (λ c. c ∷ by-id k t (c .id) l) (sym e)
 
   pub by-id-ends : (k : ℕ) → c .id ≡ 0 → by-id k t n l ≡ []
@@ -131,4 +131,4 @@ module _ (t : Certificate → Bool) (l : List Certificate) (n : ℕ) (c : Certif
   by-id-ends zero z = refl
   by-id-ends (suc k) z =
       cond-cases (λ a. a ≡ []) (eqb (lowest t n l .id) 0) [] _ (λ y. refl)
-      (λ y. absurd (isnt (lowest t n l .id) 0 y (ap (λ c. c .id) (sym e) ∙ z)))
+      (λ y. absurd (neqb→ne (lowest t n l .id) 0 y (ap (λ c. c .id) (sym e) ∙ z)))

@@ -6,7 +6,7 @@ use mathlib.Core.Logic.{_≢_}
 use mathlib.Core.Path.{_≡_, sym, ap, subst, _∙_}
 use native.Mathlib.Omega.{arith}
 use borrow.Author.Tests.{eq-eqb, ne-eqb, not-false}
-use lib.Dec.{eqb}
+use lib.Dec.{eqb, eqb→eq}
 use lib.ListN.{length, length-append, getD}
 use Rattle.octets.specs.Octets.{put}
 use Rattle.octets.proofs.Laws.{put-none}
@@ -22,7 +22,7 @@ use Rattle.rules.specs.ImageRules as ImageRules
 use Rattle.rules.specs.Faults.{fault}
 use Rattle.rules.specs.Step.{refused-at, refusal}
 use Rattle.rules.specs.Codes.{is-executable, executable-named, executable-known}
-use Rattle.rules.proofs.Tests.{is, si, tnsi, not-intro}
+use Rattle.rules.proofs.Tests.{eq→eqb, ne→neqb, not-intro}
 use Rattle.rules.proofs.Accepts.{true-T}
 use Rattle.rules.proofs.Shortest.{links-small}
 use Rattle.lookup.specs.Places.{first-place}
@@ -70,7 +70,7 @@ module _ (t : Trust) (x : Executable) where
     pub told-chained : c .domain ≢ 0 → explained t x ≡ climbed-lines t (c .domain) (c .links) (x .signing) ++ despite x
     unfolding chain-of chained chain-told
     told-chained nz =
-        explained-chain t x (tnsi (chain-domain t (x .signing)) 0 (λ z. nz (ap (λ c. c .domain) e ∙ z)))
+        explained-chain t x (ne→neqb (chain-domain t (x .signing)) 0 (λ z. nz (ap (λ c. c .domain) e ∙ z)))
         ∙ ap (λ c. climbed-lines t (c .domain) (c .links) (x .signing) ++ despite x) (sym e)
 
     pub told-refused : c .domain ≡ 0 → x .signing ≢ 0 → {b : Bool} → b ≡ any (has-key (x .signing)) (t .certificates) → not b ≡ false
@@ -78,15 +78,15 @@ module _ (t : Trust) (x : Executable) where
     unfolding chain-of chained unsigned held
     told-refused z s {b} q h =
         let d = chain-domain t (x .signing) in
-        explained-reasons t x (tnsi (x .signing) 0 s) (true-T _ (sym q ∙ not-false b h)) (not-intro (eqb d 0) (si d 0 (ap (λ c. c .domain) (sym e) ∙ z)))
+        explained-reasons t x (ne→neqb (x .signing) 0 s) (true-T _ (sym q ∙ not-false b h)) (not-intro (eqb d 0) (eq→eqb d 0 (ap (λ c. c .domain) (sym e) ∙ z)))
 
   pub told-unsigned : x .signing ≡ 0 → explained t x ≡ unsigned-line x ∷ []
   unfolding unsigned
-  told-unsigned z = explained-unsigned t x (si (x .signing) 0 z)
+  told-unsigned z = explained-unsigned t x (eq→eqb (x .signing) 0 z)
 
   pub told-unheld : x .signing ≢ 0 → {b : Bool} → b ≡ any (has-key (x .signing)) (t .certificates) → not b ≡ true → explained t x ≡ unheld-line x ∷ []
   unfolding unsigned held
-  told-unheld s q h = explained-unheld t x (tnsi (x .signing) 0 s) (true-T _ (not-is q h))
+  told-unheld s q h = explained-unheld t x (ne→neqb (x .signing) 0 s) (true-T _ (not-is q h))
 
 -- ---- the code
 

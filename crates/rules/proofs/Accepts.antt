@@ -4,7 +4,7 @@ use mathlib.Core.Bool.{Bool, true, false, not, _||_}
 use mathlib.Core.List.{List, [], _∷_, List·Memᴰ}
 use mathlib.Core.Logic.{_≢_, _⊎_, inl, inr}
 use mathlib.Core.Path.{_≡_, refl, subst, sym}
-use lib.Dec.{T, eqb}
+use lib.Dec.{T, eqb, eqb→eq}
 use lib.ListN.{length}
 use Rattle.records.specs.Phone.{Trust, Phone, decode}
 use Rattle.records.specs.Frame.{framed}
@@ -15,7 +15,7 @@ use Rattle.rules.specs.Chains.{chains-to}
 use Rattle.rules.specs.ImageRules.{known-place, row-fits, key-of-one-domain, card-owns, one-in-place, yields-to-card, one-manufacturer}
 use Rattle.rules.specs.ImageRules.{i1, i2, i3, i4, i5, i6, i7, i8, broken, accepted}
 use Rattle.rules.specs.Parts.{slot-fits, card-fits, program-fits, chained-fits}
-use Rattle.rules.proofs.Tests.{tests, is, isnt, and-i, or-j, or-cases, by-test, not-elim, not-intro, Passes, first-out, first-in}
+use Rattle.rules.proofs.Tests.{tests, neqb→ne, and-i, or-j, or-cases, by-test, not-elim, not-intro, Passes, first-out, first-in}
 use Rattle.rules.proofs.Lists.{all-out, all-in, pairs-out, pairs-in}
 use Rattle.rules.proofs.Accepted.{Held, Valid, Marks, Accepted}
 use Rattle.rules.proofs.Fits.{slot-out, slot-in, named-out, named-in, executable-out, executable-in}
@@ -55,7 +55,7 @@ yields p h nz c m =
     go (or-cases (eqb (p .trust .seen .card) 0) (all (yields-to-card p) (p .trust .certificates)) (search tests))
   where
     go : T (eqb (p .trust .seen .card) 0) ⊎ T (all (yields-to-card p) (p .trust .certificates)) → Valid 1 (p .trust .seen .clock) c → c .place ≡ 0 → Yields p c
-    go (inl t) = absurd (nz (is (p .trust .seen .card) 0 t))
+    go (inl t) = absurd (nz (eqb→eq (p .trust .seen .card) 0 t))
     go (inr t) = yields-out p c (all-out (yields-to-card p) (p .trust .certificates) t c m)
 
 pub marks-out : (p : Phone) → T (i5 p) → Marks (p .cards) (p .trust .seen) (p .trust .certificates)
@@ -67,7 +67,7 @@ marks-out p h =
     record {
       one-each = λ c e m n. in-place-out t c e (pairs-out (one-in-place t) l (search tests) c e m n);
       not-both = λ c e m n v w q g.
-          by-test (eqb k 0) (λ z. is k 0 z) (λ z. absurd (yields p h (isnt k 0 z) c m v q .none-there (has-valid-in (p .trust) k e n w g)));
+          by-test (eqb k 0) (λ z. eqb→eq k 0 z) (λ z. absurd (yields p h (neqb→ne k 0 z) c m v q .none-there (has-valid-in (p .trust) k e n w g)));
       mine = λ c m v q z. yields p h z c m v q .owner;
       one-maker = λ c e m n. manufacturer-out t c e (pairs-out (one-manufacturer t) l (search tests) c e m n);
     }
@@ -77,7 +77,7 @@ pub chained-out : (t : Trust) (x : Executable) → T (chained-fits t x) → x .d
 chained-out t x h nz = go (or-cases (eqb (x .domain) 0) (chains-to t (x .signing) (x .domain)) h)
   where
     go : T (eqb (x .domain) 0) ⊎ T (chains-to t (x .signing) (x .domain)) → T (chains-to t (x .signing) (x .domain))
-    go (inl z) = absurd (nz (is (x .domain) 0 z))
+    go (inl z) = absurd (nz (eqb→eq (x .domain) 0 z))
     go (inr z) = z
 
 pub accepts-out : (p : Phone) → Ruled p → Accepted p
@@ -135,11 +135,11 @@ i5-in p o = search (and-i, each, none, maker)
     none : T (eqb k 0 || all (yields-to-card p) l)
     none =
         by-test (eqb k 0) (λ z. search tests)
-        (λ z. or-j (eqb k 0) (all (yields-to-card p) l) (all-in (yields-to-card p) l (λ c m. yields-in p c (none-there (isnt k 0 z) c m))))
+        (λ z. or-j (eqb k 0) (all (yields-to-card p) l) (all-in (yields-to-card p) l (λ c m. yields-in p c (none-there (neqb→ne k 0 z) c m))))
 
 chained-in : (t : Trust) (x : Executable) → (x .domain ≢ 0 → T (chains-to t (x .signing) (x .domain))) → T (chained-fits t x)
 chained-in t x h =
-    by-test (eqb (x .domain) 0) (λ z. search tests) (λ z. or-j (eqb (x .domain) 0) (chains-to t (x .signing) (x .domain)) (h (isnt (x .domain) 0 z)))
+    by-test (eqb (x .domain) 0) (λ z. search tests) (λ z. or-j (eqb (x .domain) 0) (chains-to t (x .signing) (x .domain)) (h (neqb→ne (x .domain) 0 z)))
 
 pub accepts-in : (p : Phone) → Accepted p → Ruled p
 unfolding i2 i3 i6 i7 i8

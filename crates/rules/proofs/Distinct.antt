@@ -4,9 +4,9 @@ use mathlib.Core.Bool.{Bool, true, false, cond, not, _||_}
 use mathlib.Core.List.{List, [], _∷_, map, List·Memᴰ, List·Memᴰ·head, List·Memᴰ·tail, List·Memᴰ·cases-cons, List·Memᴰ·not-nil, Memᴰ·map, Memᴰ·of-map}
 use mathlib.Core.Logic.{_≢_, _⊎_, inl, inr}
 use mathlib.Core.Path.{_≡_, refl, sym, ap, _∙_}
-use lib.Dec.{T, eqb, T-not}
+use lib.Dec.{T, eqb, T-not, eqb→eq}
 use Rattle.rules.specs.Words.{any, fill, distinct}
-use Rattle.rules.proofs.Tests.{tests, is, si, or-cases, and-r, and-i, or-j, by-test, isnt}
+use Rattle.rules.proofs.Tests.{tests, eq→eqb, or-cases, and-r, and-i, or-j, by-test, neqb→ne}
 use Rattle.rules.proofs.Lists.{any-in, none-in, fill-out}
 
 module _ {A : Type 0} (i : A → ℕ) where
@@ -16,8 +16,8 @@ module _ {A : Type 0} (i : A → ℕ) where
   head-alone x l h f m nz e = go (or-cases (eqb (i x) 0) (not (any (eqb (i x)) (map i l))) (search tests))
     where
       go : T (eqb (i x) 0) ⊎ T (not (any (eqb (i x)) (map i l))) → ⊥
-      go (inl z) = nz (is (i x) 0 z)
-      go (inr z) = T-not (any (eqb (i x)) (map i l)) z (any-in (eqb (i x)) (Memᴰ·map i m) (si (i x) (i f) e))
+      go (inl z) = nz (eqb→eq (i x) 0 z)
+      go (inr z) = T-not (any (eqb (i x)) (map i l)) z (any-in (eqb (i x)) (Memᴰ·map i m) (eq→eqb (i x) (i f) e))
 
   pub alone : (l : List A) → T (distinct (map i l)) → (e f : A) → List·Memᴰ e l → List·Memᴰ f l → i e ≢ 0 → i e ≡ i f → e ≡ f
   unfolding distinct
@@ -33,10 +33,10 @@ module _ {A : Type 0} (i : A → ℕ) where
   -- put together again: the head is 0 or not met
   cons-distinct : (x : A) (l : List A) → (i x ≢ 0 → (y : A) → List·Memᴰ y l → i x ≢ i y) → T (distinct (map i l)) → T (distinct (map i (x ∷ l)))
   unfolding distinct
-  cons-distinct x l h d = and-i (eqb (i x) 0 || not (any (eqb (i x)) (map i l))) (distinct (map i l)) (by-test (eqb (i x) 0) (λ t. search tests) (λ t. or-j (eqb (i x) 0) (not (any (eqb (i x)) (map i l))) (none-in (eqb (i x)) (map i l) (none (isnt (i x) 0 t))))) d
+  cons-distinct x l h d = and-i (eqb (i x) 0 || not (any (eqb (i x)) (map i l))) (distinct (map i l)) (by-test (eqb (i x) 0) (λ t. search tests) (λ t. or-j (eqb (i x) 0) (not (any (eqb (i x)) (map i l))) (none-in (eqb (i x)) (map i l) (none (neqb→ne (i x) 0 t))))) d
     where
       none : i x ≢ 0 → (n : ℕ) → List·Memᴰ n (map i l) → T (eqb (i x) n) → ⊥
-      none nz n m t = let o = Memᴰ·of-map i l m in h nz (o .0) (o .1) (is (i x) n t ∙ sym (o .2))
+      none nz n m t = let o = Memᴰ·of-map i l m in h nz (o .0) (o .1) (eqb→eq (i x) n t ∙ sym (o .2))
 
   pub tail-distinct : (x : A) (l : List A) → T (distinct (map i (x ∷ l))) → T (distinct (map i l))
   unfolding distinct

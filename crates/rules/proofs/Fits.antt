@@ -4,7 +4,7 @@ use mathlib.Core.Bool.{Bool, cond, not, _&&_, _||_}
 use mathlib.Core.Logic.{_≢_, _⊎_, inl, inr}
 use mathlib.Core.Path.{_≡_, subst, sym}
 use native.Mathlib.Omega.{arith}
-use lib.Dec.{T, eqb, leb→le, le→leb, ltb→lt, lt→ltb}
+use lib.Dec.{T, eqb, leb→le, le→leb, ltb→lt, lt→ltb, eqb→eq}
 use Rattle.records.specs.Phone.{no-certificate, no-executable}
 use Rattle.records.specs.declared.Certificate.{Certificate}
 use Rattle.records.specs.declared.Card.{Card}
@@ -12,7 +12,7 @@ use Rattle.records.specs.declared.Executable.{Executable}
 use Rattle.rules.specs.Words.{_implies_, all-zero}
 use Rattle.rules.specs.ImageRules.{free-certificate, free-executable, zero-certificate, certificate-ranges, root-fits, issued-fits, certificate-fits, zero-executable, executable-fits}
 use Rattle.rules.specs.Parts.{slot-fits, card-fits, program-fits}
-use Rattle.rules.proofs.Tests.{tests, is, si, isnt, tnsi, and-i, or-i, or-cases, by-test, cond-no, yes-cond, no-cond, implies-out, implies-in}
+use Rattle.rules.proofs.Tests.{tests, eq→eqb, neqb→ne, ne→neqb, and-i, or-i, or-cases, by-test, cond-no, yes-cond, no-cond, implies-out, implies-in}
 use Rattle.rules.proofs.Accepted.{Occupied, Named, Stored}
 
 -- orders among the tests
@@ -27,7 +27,7 @@ sum-of c =
 no-certificate-out : (c : Certificate) → T (zero-certificate c) → c ≡ no-certificate
 unfolding zero-certificate all-zero sum-of
 no-certificate-out c h =
-    let s : sum-of c ≡ 0 = is (sum-of c) 0 h in
+    let s : sum-of c ≡ 0 = eqb→eq (sum-of c) 0 h in
     let z : (n : ℕ) → n ≤ sum-of c → n ≡ 0 = (λ n l. omega arith) in
     λ i. record {
       id = z (c .id) (omega arith) i;
@@ -44,23 +44,23 @@ no-certificate-out c h =
 
 root-out : (c : Certificate) → T (root-fits c) → (c .verifying ≡ 0) × (c .domain ≡ 2 → c .place ≡ 0) × (c .domain ≢ 3 → c .enabled ≡ 1)
 unfolding root-fits
-root-out c h = (search tests, λ e. is (c .place) 0 (implies-out (eqb (c .domain) 2) (eqb (c .place) 0) (search tests) (si (c .domain) 2 e)), on)
+root-out c h = (search tests, λ e. eqb→eq (c .place) 0 (implies-out (eqb (c .domain) 2) (eqb (c .place) 0) (search tests) (eq→eqb (c .domain) 2 e)), on)
   where
     on : c .domain ≢ 3 → c .enabled ≡ 1
     on n = go (or-cases (eqb (c .enabled) 1) (eqb (c .domain) 3) (search tests))
       where
         go : T (eqb (c .enabled) 1) ⊎ T (eqb (c .domain) 3) → c .enabled ≡ 1
-        go (inl t) = is (c .enabled) 1 t
-        go (inr t) = absurd (n (is (c .domain) 3 t))
+        go (inl t) = eqb→eq (c .enabled) 1 t
+        go (inr t) = absurd (n (eqb→eq (c .domain) 3 t))
 
 root-in : (c : Certificate) → (c .verifying ≡ 0) × (c .domain ≡ 2 → c .place ≡ 0) × (c .domain ≢ 3 → c .enabled ≡ 1) → T (root-fits c)
 unfolding root-fits
 root-in c o =
     let v : c .verifying ≡ 0 = o .0 in
-    let a : T (eqb (c .domain) 2 implies eqb (c .place) 0) = implies-in (eqb (c .domain) 2) (eqb (c .place) 0) (λ t. si (c .place) 0 (o .1 (is (c .domain) 2 t))) in
+    let a : T (eqb (c .domain) 2 implies eqb (c .place) 0) = implies-in (eqb (c .domain) 2) (eqb (c .place) 0) (λ t. eq→eqb (c .place) 0 (o .1 (eqb→eq (c .domain) 2 t))) in
     let b : T (eqb (c .enabled) 1 || eqb (c .domain) 3) =
     by-test (eqb (c .domain) 3) (λ t. search tests)
-    (λ t. or-i (eqb (c .enabled) 1) (eqb (c .domain) 3) (si (c .enabled) 1 (o .2 (isnt (c .domain) 3 t)))) in
+    (λ t. or-i (eqb (c .enabled) 1) (eqb (c .domain) 3) (eq→eqb (c .enabled) 1 (o .2 (neqb→ne (c .domain) 3 t)))) in
     search tests
 
 issued-out : (c : Certificate) → T (issued-fits c) → (c .verifying ≢ 0) × (c .mark ≡ 1) × (c .enabled ≡ 1)
@@ -80,16 +80,16 @@ occupied-out c h = record {
   domain = (search ranges depth 9, search ranges depth 9);
   mark = search ranges depth 9;
   enabled = search ranges depth 9;
-  root = λ e. root-out c (implies-out (eqb (c .kind) 0) (root-fits c) (search tests) (si (c .kind) 0 e));
-  issued = λ e. issued-out c (implies-out (eqb (c .kind) 1) (issued-fits c) (search tests) (si (c .kind) 1 e));
+  root = λ e. root-out c (implies-out (eqb (c .kind) 0) (root-fits c) (search tests) (eq→eqb (c .kind) 0 e));
+  issued = λ e. issued-out c (implies-out (eqb (c .kind) 1) (issued-fits c) (search tests) (eq→eqb (c .kind) 1 e));
 }
 
 occupied-in : (c : Certificate) → Occupied c → T (certificate-fits c)
 unfolding certificate-fits certificate-ranges
 occupied-in c o =
-    let a : T (eqb (c .kind) 0 implies root-fits c) = implies-in (eqb (c .kind) 0) (root-fits c) (λ t. root-in c (o .root (is (c .kind) 0 t))) in
-    let b : T (eqb (c .kind) 1 implies issued-fits c) = implies-in (eqb (c .kind) 1) (issued-fits c) (λ t. issued-in c (o .issued (is (c .kind) 1 t))) in
-    let r : T (certificate-ranges c) = search (and-i, tnsi, le→leb, o .id, o .key, o .kind, o .domain .0, o .domain .1, o .mark, o .enabled) depth 12 in
+    let a : T (eqb (c .kind) 0 implies root-fits c) = implies-in (eqb (c .kind) 0) (root-fits c) (λ t. root-in c (o .root (eqb→eq (c .kind) 0 t))) in
+    let b : T (eqb (c .kind) 1 implies issued-fits c) = implies-in (eqb (c .kind) 1) (issued-fits c) (λ t. issued-in c (o .issued (eqb→eq (c .kind) 1 t))) in
+    let r : T (certificate-ranges c) = search (and-i, ne→neqb, le→leb, o .id, o .key, o .kind, o .domain .0, o .domain .1, o .mark, o .enabled) depth 12 in
     search and-i
 
 pub slot-out : (c : Certificate) → T (slot-fits c) → (c ≡ no-certificate) ⊎ Occupied c
@@ -101,7 +101,7 @@ slot-out c h =
 pub slot-in : (c : Certificate) → (c ≡ no-certificate) ⊎ Occupied c → T (slot-fits c)
 unfolding zero-certificate all-zero
 slot-in c (inl z) = subst (λ c. T (slot-fits c)) (sym z) tt
-slot-in c (inr o) = cond-no (free-certificate c) (zero-certificate c) (certificate-fits c) (tnsi (c .id) 0 (o .id)) (occupied-in c o)
+slot-in c (inr o) = cond-no (free-certificate c) (zero-certificate c) (certificate-fits c) (ne→neqb (c .id) 0 (o .id)) (occupied-in c o)
 
 -- ---- I3
 
@@ -116,7 +116,7 @@ named-in k n = search tests
 no-executable-out : (x : Executable) → T (zero-executable x) → x ≡ no-executable
 unfolding zero-executable all-zero
 no-executable-out x h =
-    let s : x .id + (x .domain + (x .blank + (x .signing + (x .permissions + 0)))) ≡ 0 = is _ 0 h in
+    let s : x .id + (x .domain + (x .blank + (x .signing + (x .permissions + 0)))) ≡ 0 = eqb→eq _ 0 h in
     let a : x .id ≡ 0 = omega arith in
     let b : x .domain ≡ 0 = omega arith in
     let c : x .blank ≡ 0 = omega arith in
@@ -130,15 +130,15 @@ stored-out n x nz h = record { id = nz; domain = search ranges; blank = search t
 
 stored-in : (n : ℕ) (x : Executable) → Stored n x → T (executable-fits n x)
 unfolding executable-fits
-stored-in n x s = search (and-i, si, le→leb, s .domain, s .blank, s .permissions)
+stored-in n x s = search (and-i, eq→eqb, le→leb, s .domain, s .blank, s .permissions)
 
 pub executable-out : (n : ℕ) (x : Executable) → T (program-fits n x) → (x ≡ no-executable) ⊎ Stored n x
 executable-out n x h =
     by-test (free-executable x)
     (λ t. inl (no-executable-out x (yes-cond (free-executable x) (zero-executable x) (executable-fits n x) h t)))
-    (λ t. inr (stored-out n x (isnt (x .id) 0 t) (no-cond (free-executable x) (zero-executable x) (executable-fits n x) h t)))
+    (λ t. inr (stored-out n x (neqb→ne (x .id) 0 t) (no-cond (free-executable x) (zero-executable x) (executable-fits n x) h t)))
 
 pub executable-in : (n : ℕ) (x : Executable) → (x ≡ no-executable) ⊎ Stored n x → T (program-fits n x)
 unfolding zero-executable all-zero
 executable-in n x (inl z) = subst (λ x. T (program-fits n x)) (sym z) tt
-executable-in n x (inr s) = cond-no (free-executable x) (zero-executable x) (executable-fits n x) (tnsi (x .id) 0 (s .id)) (stored-in n x s)
+executable-in n x (inr s) = cond-no (free-executable x) (zero-executable x) (executable-fits n x) (ne→neqb (x .id) 0 (s .id)) (stored-in n x s)

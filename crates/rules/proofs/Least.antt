@@ -4,9 +4,9 @@ use mathlib.Core.Bool.{Bool, true, false, cond, not}
 use mathlib.Core.Logic.{_≢_}
 use mathlib.Core.Path.{_≡_, refl, subst}
 use native.Mathlib.Omega.{arith}
-use lib.Dec.{T, T-not, eqb}
+use lib.Dec.{T, T-not, eqb, eqb→eq}
 use Rattle.rules.specs.Words.{least}
-use Rattle.rules.proofs.Tests.{is, isnt, by-test}
+use Rattle.rules.proofs.Tests.{neqb→ne, by-test}
 
 module _ (f : ℕ → Bool) where
   -- one more number to look at, after r was found among those below it
@@ -14,7 +14,7 @@ module _ (f : ℕ → Bool) where
   further n b r = cond (eqb r 0) (cond b (suc n) 0) r
 
   further-cases : (P : ℕ → Type 0) (n : ℕ) (b : Bool) (r : ℕ) → (r ≢ 0 → P r) → (r ≡ 0 → T b → P (suc n)) → (r ≡ 0 → T (not b) → P 0) → P (further n b r)
-  further-cases P n b r old new none = go (eqb r 0) b (λ z. is r 0 z) (λ z. isnt r 0 z) new none
+  further-cases P n b r old new none = go (eqb r 0) b (λ z. eqb→eq r 0 z) (λ z. neqb→ne r 0 z) new none
     where
       go : (z b : Bool) → (T z → r ≡ 0) → (T (not z) → r ≢ 0) → (r ≡ 0 → T b → P (suc n)) → (r ≡ 0 → T (not b) → P 0) → P (cond z (cond b (suc n) 0) r)
       go true true y x new none = new (y tt) tt
@@ -38,7 +38,7 @@ module _ (f : ℕ → Bool) where
   pub least-least : (n m : ℕ) → 1 ≤ m → m ≤ n → T (f m) → (least n f ≢ 0) × (least n f ≤ m)
   unfolding least
   least-least zero m lo hi h = absurd (omega arith)
-  least-least (suc n) m lo hi h = by-test (eqb m (suc n)) (λ t. here (is m (suc n) t)) (λ t. below (least-least n m lo (omega (arith, isnt m (suc n) t)) h))
+  least-least (suc n) m lo hi h = by-test (eqb m (suc n)) (λ t. here (eqb→eq m (suc n) t)) (λ t. below (least-least n m lo (omega (arith, neqb→ne m (suc n) t)) h))
     where
       here : m ≡ suc n → (further n (f (suc n)) (least n f) ≢ 0) × (further n (f (suc n)) (least n f) ≤ m)
       here e =

@@ -6,7 +6,7 @@ use mathlib.Core.Logic.{_⊎_, inl, inr}
 use mathlib.Core.Path.{_≡_, refl}
 use native.Mathlib.Omega.{arith}
 use borrow.Author.Tests.{not-true}
-use lib.Dec.{T, eqb}
+use lib.Dec.{T, eqb, eqb→eq}
 use lib.ListN.{getD}
 use Rattle.records.specs.Phone.{Phone, no-certificate, certificate-at, with-card, marked, enabling}
 use Rattle.records.specs.declared.Certificate.{Certificate}
@@ -17,7 +17,7 @@ use Rattle.rules.specs.Forms.{new-certificate}
 use Rattle.rules.specs.Codes.{has-id, certificate-named}
 use Rattle.rules.specs.Effects.{phone-operator-root, retired, card-rule, tick, card-in, card-out, power-up, install-certificate, delete-certificate, on-a-card, after-marking, mark-valid, mark-invalid, enabled-by, message}
 use Rattle.rules.specs.Effects.{install-executable, delete-executable, verify, give, withdraw, request, effects, effect, settle, changed}
-use Rattle.rules.proofs.Tests.{is, by-test}
+use Rattle.rules.proofs.Tests.{by-test}
 use Rattle.rules.proofs.Accepts.{T-true}
 use Rattle.rules.proofs.Changes.{at-cases, map-at, change-at, fill-at}
 
@@ -90,7 +90,7 @@ by-install : Marks 5 install-certificate
 unfolding install-certificate
 by-install e k p =
     fill-at (Becomes e) free-certificate (new-certificate (p .mode) e) no-certificate (p .trust .certificates) (λ c h. inl h)
-    (λ c t h. inr (inr (k, is (c .id) 0 t)))
+    (λ c t h. inr (inr (k, eqb→eq (c .id) 0 t)))
 
 by-delete : Marks 6 delete-certificate
 unfolding delete-certificate
@@ -99,7 +99,7 @@ by-delete e k p = changes e p (has-id (e .id)) (λ c. no-certificate) (λ c t h.
 by-mark-valid : Marks 7 mark-valid
 unfolding mark-valid after-marking
 by-mark-valid e k p =
-    map-at (Becomes e) _ no-certificate (p .trust .certificates) (λ h. inl h) (λ c. go c (has-id (e .id) c) (λ t. is (c .id) (e .id) t))
+    map-at (Becomes e) _ no-certificate (p .trust .certificates) (λ h. inl h) (λ c. go c (has-id (e .id) c) (λ t. eqb→eq (c .id) (e .id) t))
   where
     swept : Certificate → Bool
     swept c = on-a-card (certificate-named p (e .id)) && phone-operator-root c

@@ -7,12 +7,12 @@ use native.Mathlib.Numerals.{add-one}
 use native.Mathlib.Omega.{arith}
 use native.Mathlib.Decide.{decLt}
 use borrow.Author.Tests.{not-true, not-false, ne-eqb}
-use lib.Dec.{T, eqb}
+use lib.Dec.{T, eqb, eqb→eq}
 use lib.ListN.{length, getD, take}
 use lib.Seq.{take-suc}
 use Rattle.rules.specs.Words.{any, all, all-pairs, distinct}
 use Rattle.rules.specs.Parts.{apart}
-use Rattle.rules.proofs.Tests.{is, isnt, by-test}
+use Rattle.rules.proofs.Tests.{neqb→ne, by-test}
 use Rattle.rules.proofs.Lowest.{Grows}
 
 and-and : (a b c : Bool) → (a && (b && c)) ≡ ((a && b) && c)
@@ -79,8 +79,8 @@ module _ {A : Type 0} where
 apart-even : (n m : ℕ) → apart n m ≡ apart m n
 apart-even n m =
     by-test (eqb n m)
-    (λ t. subst (λ k. apart n k ≡ apart k n) (is n m t) refl)
-    (λ t. let d = isnt n m t in rw (ne-eqb n m d, ne-eqb m n (λ e. d (sym e)), or-true (eqb n 0), or-true (eqb m 0)))
+    (λ t. subst (λ k. apart n k ≡ apart k n) (eqb→eq n m t) refl)
+    (λ t. let d = neqb→ne n m t in rw (ne-eqb n m d, ne-eqb m n (λ e. d (sym e)), or-true (eqb n 0), or-true (eqb m 0)))
 
 module _ {A : Type 0} (f : A → ℕ) where
   any-more : (t : ℕ → Bool) (l : List A) (x : A) → any t (map f (l ++ (x ∷ []))) ≡ (any t (map f l) || t (f x))

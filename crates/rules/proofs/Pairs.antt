@@ -4,13 +4,13 @@ use mathlib.Core.Bool.{Bool, not, _&&_}
 use mathlib.Core.List.{List, List·Memᴰ}
 use mathlib.Core.Logic.{_≢_}
 use mathlib.Core.Path.{_≡_}
-use lib.Dec.{T, eqb, T-not, not-T}
+use lib.Dec.{T, eqb, T-not, not-T, eqb→eq}
 use Rattle.records.specs.Phone.{Seen, Trust, Phone}
 use Rattle.records.specs.declared.Certificate.{Certificate}
 use Rattle.records.specs.declared.Card.{Card}
 use Rattle.rules.specs.ImageRules.{operator-of, operator-root, valid-in, has-valid-operator, key-of-one-domain, card-owns, one-in-place, yields-to-card, one-manufacturer}
 use Rattle.rules.specs.Parts.{not-both, owned-by-card}
-use Rattle.rules.proofs.Tests.{tests, is, si, and-i, implies-out, implies-in}
+use Rattle.rules.proofs.Tests.{tests, eq→eqb, and-i, implies-out, implies-in}
 use Rattle.rules.proofs.Lists.{Some, any-in, any-out}
 use Rattle.rules.proofs.Accepted.{Valid}
 
@@ -20,26 +20,26 @@ module _ (c e : Certificate) where
   pub key-out : T (key-of-one-domain c e) → c .key ≢ 0 → c .key ≡ e .key → c .domain ≡ e .domain
   unfolding key-of-one-domain
   key-out h nz q =
-      is (c .domain) (e .domain) (implies-out (not (eqb (c .key) 0) && eqb (c .key) (e .key)) (eqb (c .domain) (e .domain)) h (search tests))
+      eqb→eq (c .domain) (e .domain) (implies-out (not (eqb (c .key) 0) && eqb (c .key) (e .key)) (eqb (c .domain) (e .domain)) h (search tests))
 
   pub key-in : (c .key ≢ 0 → c .key ≡ e .key → c .domain ≡ e .domain) → T (key-of-one-domain c e)
   unfolding key-of-one-domain
   key-in f =
       implies-in (not (eqb (c .key) 0) && eqb (c .key) (e .key)) (eqb (c .domain) (e .domain))
-      (λ t. si (c .domain) (e .domain) (f (search tests) (search tests)))
+      (λ t. eq→eqb (c .domain) (e .domain) (f (search tests) (search tests)))
 
 module _ (cards : List Card) (c : Certificate) where
   pub owns-out : T (card-owns cards c) → c .kind ≡ 0 → c .domain ≡ 1 → c .place ≢ 0 → c .owner ≡ operator-of cards (c .place)
   unfolding card-owns
   owns-out h k d z =
-      is (c .owner) (operator-of cards (c .place))
+      eqb→eq (c .owner) (operator-of cards (c .place))
       (implies-out (operator-root c && not (eqb (c .place) 0)) (eqb (c .owner) (operator-of cards (c .place))) h (search tests))
 
   pub owns-in : (c .kind ≡ 0 → c .domain ≡ 1 → c .place ≢ 0 → c .owner ≡ operator-of cards (c .place)) → T (card-owns cards c)
   unfolding card-owns
   owns-in f =
       implies-in (operator-root c && not (eqb (c .place) 0)) (eqb (c .owner) (operator-of cards (c .place)))
-      (λ t. si (c .owner) (operator-of cards (c .place)) (f (search tests) (search tests) (search tests)))
+      (λ t. eq→eqb (c .owner) (operator-of cards (c .place)) (f (search tests) (search tests) (search tests)))
 
 -- ---- I5
 
@@ -47,22 +47,22 @@ module _ (t : ℕ) (c e : Certificate) where
   pub in-place-out : T (one-in-place t c e) → Valid 1 t c → Valid 1 t e → c .place ≡ e .place → c .id ≡ e .id
   unfolding one-in-place
   in-place-out h v w q =
-      is (c .id) (e .id) (implies-out (valid-in 1 t c && valid-in 1 t e && eqb (c .place) (e .place)) (eqb (c .id) (e .id)) h (search tests))
+      eqb→eq (c .id) (e .id) (implies-out (valid-in 1 t c && valid-in 1 t e && eqb (c .place) (e .place)) (eqb (c .id) (e .id)) h (search tests))
 
   pub in-place-in : (Valid 1 t c → Valid 1 t e → c .place ≡ e .place → c .id ≡ e .id) → T (one-in-place t c e)
   unfolding one-in-place
   in-place-in f =
       implies-in (valid-in 1 t c && valid-in 1 t e && eqb (c .place) (e .place)) (eqb (c .id) (e .id))
-      (λ h. si (c .id) (e .id) (f (search tests) (search tests) (search tests)))
+      (λ h. eq→eqb (c .id) (e .id) (f (search tests) (search tests) (search tests)))
 
   pub manufacturer-out : T (one-manufacturer t c e) → Valid 2 t c → Valid 2 t e → c .id ≡ e .id
   unfolding one-manufacturer
-  manufacturer-out h v w = is (c .id) (e .id) (implies-out (valid-in 2 t c && valid-in 2 t e) (eqb (c .id) (e .id)) h (search tests))
+  manufacturer-out h v w = eqb→eq (c .id) (e .id) (implies-out (valid-in 2 t c && valid-in 2 t e) (eqb (c .id) (e .id)) h (search tests))
 
   pub manufacturer-in : (Valid 2 t c → Valid 2 t e → c .id ≡ e .id) → T (one-manufacturer t c e)
   unfolding one-manufacturer
   manufacturer-in f =
-      implies-in (valid-in 2 t c && valid-in 2 t e) (eqb (c .id) (e .id)) (λ h. si (c .id) (e .id) (f (search tests) (search tests)))
+      implies-in (valid-in 2 t c && valid-in 2 t e) (eqb (c .id) (e .id)) (λ h. eq→eqb (c .id) (e .id) (f (search tests) (search tests)))
 
 -- a valid operator root in a place
 abbrev pub valid-at : Trust → ℕ → Certificate → Bool
@@ -101,7 +101,7 @@ module _ (p : Phone) (c : Certificate) where
       go y =
           and-i (not (has-valid-operator (p .trust) (p .trust .seen .card))) (eqb (c .owner) (operator-of (p .cards) (p .trust .seen .card)))
           (not-T (has-valid-operator (p .trust) (p .trust .seen .card)) (y .none-there))
-          (si (c .owner) (operator-of (p .cards) (p .trust .seen .card)) (y .owner))
+          (eq→eqb (c .owner) (operator-of (p .cards) (p .trust .seen .card)) (y .owner))
 
 -- ---- I5's sentences about the card present, one by one
 
@@ -109,14 +109,14 @@ module _ (s : Seen) (c e : Certificate) where
   pub not-both-out : T (not-both s c e) → Valid 1 (s .clock) c → Valid 1 (s .clock) e → c .place ≡ 0 → e .place ≡ s .card → s .card ≡ 0
   unfolding not-both
   not-both-out h v w q g =
-      is (s .card) 0
+      eqb→eq (s .card) 0
       (implies-out (valid-in 1 (s .clock) c && valid-in 1 (s .clock) e && eqb (c .place) 0 && eqb (e .place) (s .card)) (eqb (s .card) 0) h (search tests))
 
   pub not-both-in : (Valid 1 (s .clock) c → Valid 1 (s .clock) e → c .place ≡ 0 → e .place ≡ s .card → s .card ≡ 0) → T (not-both s c e)
   unfolding not-both
   not-both-in f =
       implies-in (valid-in 1 (s .clock) c && valid-in 1 (s .clock) e && eqb (c .place) 0 && eqb (e .place) (s .card)) (eqb (s .card) 0)
-      (λ h. si (s .card) 0 (f (search tests) (search tests) (search tests) (search tests)))
+      (λ h. eq→eqb (s .card) 0 (f (search tests) (search tests) (search tests) (search tests)))
 
 module _ (cards : List Card) (s : Seen) (c : Certificate) where
   abbrev on-phone : Bool
@@ -125,10 +125,10 @@ module _ (cards : List Card) (s : Seen) (c : Certificate) where
   pub owned-out : T (owned-by-card cards s c) → Valid 1 (s .clock) c → c .place ≡ 0 → s .card ≢ 0 → c .owner ≡ operator-of cards (s .card)
   unfolding owned-by-card
   owned-out h v q z =
-      is (c .owner) (operator-of cards (s .card)) (implies-out on-phone (eqb (c .owner) (operator-of cards (s .card))) h (search tests))
+      eqb→eq (c .owner) (operator-of cards (s .card)) (implies-out on-phone (eqb (c .owner) (operator-of cards (s .card))) h (search tests))
 
   pub owned-in : (Valid 1 (s .clock) c → c .place ≡ 0 → s .card ≢ 0 → c .owner ≡ operator-of cards (s .card)) → T (owned-by-card cards s c)
   unfolding owned-by-card
   owned-in f =
       implies-in on-phone (eqb (c .owner) (operator-of cards (s .card)))
-      (λ h. si (c .owner) (operator-of cards (s .card)) (f (search tests) (search tests) (search tests)))
+      (λ h. eq→eqb (c .owner) (operator-of cards (s .card)) (f (search tests) (search tests) (search tests)))

@@ -5,14 +5,14 @@ use mathlib.Core.List.{List, [], _∷_}
 use mathlib.Core.Logic.{_≢_, _↔_}
 use mathlib.Core.Path.{_≡_, refl}
 use native.Mathlib.Omega.{arith}
-use lib.Dec.{T, eqb, leb, leb→le, nleb→lt}
+use lib.Dec.{T, eqb, leb, leb→le, nleb→lt, eqb→eq}
 use lib.ListN.{length}
 use Rattle.records.specs.Phone.{Trust}
 use Rattle.records.specs.declared.Certificate.{Certificate}
 use Rattle.rules.specs.Words.{least}
 use Rattle.rules.specs.Explicit.{Chain, ends, goes-on, Chain-within, Shortest}
 use Rattle.rules.specs.Chains.{most-links, within, chains-to, links}
-use Rattle.rules.proofs.Tests.{is, isnt, by-test}
+use Rattle.rules.proofs.Tests.{neqb→ne, by-test}
 use Rattle.rules.proofs.Keys.{Key, by-root, by-issued, within-key, within-signed, key-within}
 use Rattle.rules.proofs.Least.{least-small, least-passes, least-least}
 
@@ -63,7 +63,7 @@ counted t k d = least most-links (λ n. within n t k d)
 
 links-cases : (P : ℕ → Type 0) (t : Trust) (k d : ℕ) → (d ≡ 0 → P 0) → (d ≢ 0 → P (counted t k d)) → P (links t k d)
 unfolding links
-links-cases P t k d none some = go (eqb d 0) (λ z. is d 0 z) (λ z. isnt d 0 z)
+links-cases P t k d none some = go (eqb d 0) (λ z. eqb→eq d 0 z) (λ z. neqb→ne d 0 z)
   where
     go : (b : Bool) → (T b → d ≡ 0) → (T (not b) → d ≢ 0) → P (cond b 0 (counted t k d))
     go true y n = none (y tt)
@@ -110,7 +110,7 @@ links-shortest t k d trusted nz =
 pub links-none : (t : Trust) (k d : ℕ) → k ≢ 0 → d ≢ 0 → (links t k d ≡ 0) ↔ (Chain-within most-links t d k → ⊥)
 links-none t k d signed trusted = (
   λ z c. chain-counted t k d (c .records) signed trusted (c .is-chain) (c .short) .0 z,
-  λ none. by-test (eqb (links t k d) 0) (λ z. is (links t k d) 0 z) (λ nz. absurd (none (found (isnt (links t k d) 0 nz)))),
+  λ none. by-test (eqb (links t k d) 0) (λ z. eqb→eq (links t k d) 0 z) (λ nz. absurd (none (found (neqb→ne (links t k d) 0 nz)))),
 )
   where
     found : links t k d ≢ 0 → Chain-within most-links t d k

@@ -6,10 +6,10 @@ use mathlib.Core.Logic.{_≢_}
 use mathlib.Core.Path.{_≡_, refl, sym, ap, _∙_}
 use native.Mathlib.Omega.{arith}
 use native.Mathlib.Nat.{le-of-suc-le-suc, not-suc-le-zero}
-use lib.Dec.{T, eqb}
+use lib.Dec.{T, eqb, eqb→eq}
 use lib.ListN.{getD, set, length}
 use Rattle.rules.specs.Words.{any, at, fill, find, distinct}
-use Rattle.rules.proofs.Tests.{is, si, tnsi, or-i, or-j}
+use Rattle.rules.proofs.Tests.{eq→eqb, ne→neqb, or-i, or-j}
 use Rattle.rules.proofs.Distinct.{head-alone, tail-distinct}
 
 module _ {A : Type 0} where
@@ -29,12 +29,12 @@ module _ {A : Type 0} where
 
   pub set-is : (i : A → ℕ) (n : ℕ) (f : A → A) (d : A) (l : List A) (k : ℕ) → k < length l → i (getD l k d) ≡ n → n ≢ 0 → T (distinct (map i l)) → map (at (λ x. eqb (i x) n) f) l ≡ set l k (f (getD l k d))
   set-is i n f d [] k h e nz u = absurd (not-suc-le-zero h)
-  set-is i n f d (x ∷ l) zero h e nz u = go (eqb (i x) n) (si (i x) n e) (set-miss (λ x. eqb (i x) n) f l (λ y m. tnsi (i y) n (λ q. head-alone i x l u y m (λ z. nz (sym e ∙ z)) (e ∙ sym q))))
+  set-is i n f d (x ∷ l) zero h e nz u = go (eqb (i x) n) (eq→eqb (i x) n e) (set-miss (λ x. eqb (i x) n) f l (λ y m. ne→neqb (i y) n (λ q. head-alone i x l u y m (λ z. nz (sym e ∙ z)) (e ∙ sym q))))
     where
       go : (b : Bool) → T b → map (at (λ x. eqb (i x) n) f) l ≡ l → _≡_ {A = List A} (cond b (f x) x ∷ map (at (λ x. eqb (i x) n) f) l) (f x ∷ l)
       go true h r = ap (λ y. f x ∷ y) r
       go false h r = absurd h
-  set-is i n f d (x ∷ l) (suc k) h e nz u = go (eqb (i x) n) (tnsi (i x) n (λ q. head-alone i x l u (getD l k d) (mem-at l k d (le-of-suc-le-suc h)) (λ z. nz (sym q ∙ z)) (q ∙ sym e))) (set-is i n f d l k (le-of-suc-le-suc h) e nz (tail-distinct i x l u))
+  set-is i n f d (x ∷ l) (suc k) h e nz u = go (eqb (i x) n) (ne→neqb (i x) n (λ q. head-alone i x l u (getD l k d) (mem-at l k d (le-of-suc-le-suc h)) (λ z. nz (sym q ∙ z)) (q ∙ sym e))) (set-is i n f d l k (le-of-suc-le-suc h) e nz (tail-distinct i x l u))
     where
       go : (b : Bool) → T (not b) → map (at (λ x. eqb (i x) n) f) l ≡ set l k (f (getD l k d)) → _≡_ {A = List A} (cond b (f x) x ∷ map (at (λ x. eqb (i x) n) f) l) (x ∷ set l k (f (getD l k d)))
       go true h r = absurd h

@@ -31,17 +31,14 @@ pub or-j : (a b : Bool) → T b → T (a || b)
 or-j true b h = tt
 or-j false b h = h
 
-pub is : (a b : ℕ) → T (eqb a b) → a ≡ b
-is a b h = eqb→eq a b h
+pub eq→eqb : (a b : ℕ) → a ≡ b → T (eqb a b)
+eq→eqb a b h = subst (λ (k : ℕ). T (eqb a k)) h (eqb-refl a)
 
-pub si : (a b : ℕ) → a ≡ b → T (eqb a b)
-si a b h = subst (λ (k : ℕ). T (eqb a k)) h (eqb-refl a)
+pub neqb→ne : (a b : ℕ) → T (not (eqb a b)) → a ≢ b
+neqb→ne a b h e = T-not (eqb a b) h (eq→eqb a b e)
 
-pub isnt : (a b : ℕ) → T (not (eqb a b)) → a ≢ b
-isnt a b h e = T-not (eqb a b) h (si a b e)
-
-pub tnsi : (a b : ℕ) → a ≢ b → T (not (eqb a b))
-tnsi a b h = not-T (eqb a b) (λ t. h (is a b t))
+pub ne→neqb : (a b : ℕ) → a ≢ b → T (not (eqb a b))
+ne→neqb a b h = not-T (eqb a b) (λ t. h (eqb→eq a b t))
 
 pub same : (a b : Bool) → (T a → T b) → (T b → T a) → a ≡ b
 same true true f g = refl
@@ -50,7 +47,7 @@ same false true f g = absurd (g tt)
 same false false f g = refl
 
 pub eqb-turn : (a b : ℕ) → eqb a b ≡ eqb b a
-eqb-turn a b = same (eqb a b) (eqb b a) (λ h. si b a (sym (is a b h))) (λ h. si a b (sym (is b a h)))
+eqb-turn a b = same (eqb a b) (eqb b a) (λ h. eq→eqb b a (sym (eqb→eq a b h))) (λ h. eq→eqb a b (sym (eqb→eq b a h)))
 
 -- both ways of a test, with the fact
 pub by-test {ℓ} : {C : Type ℓ} (b : Bool) → (T b → C) → (T (not b) → C) → C
@@ -125,4 +122,4 @@ unfolding _implies_
 implies-in true b h = h tt
 implies-in false b h = tt
 
-pub ruleset tests = (and-l, and-r, and-i, or-i, or-j, is, si, isnt, tnsi, nor-l, nor-r, not-elim, not-intro, cond-yes, cond-no)
+pub ruleset tests = (and-l, and-r, and-i, or-i, or-j, eqb→eq, eq→eqb, neqb→ne, ne→neqb, nor-l, nor-r, not-elim, not-intro, cond-yes, cond-no)

@@ -8,7 +8,7 @@ use native.Mathlib.Nat.{zero-add}
 use native.Mathlib.Omega.{arith}
 use native.Mathlib.Decide.{decLt}
 use borrow.Author.Tests.{eq-eqb, le-leb, lt-leb, le-ltb}
-use lib.Dec.{T, eqb, leb, leb→le}
+use lib.Dec.{T, eqb, leb, leb→le, eqb→eq}
 use lib.ListN.{length, getD, take}
 use Rattle.records.specs.Sizes.{header-size, largest-image}
 use Rattle.records.specs.Layout.{certificate-read, card-read, executable-read, row-read}
@@ -24,7 +24,7 @@ use Rattle.rules.specs.ImageRules.{i1, i2, i3, i4, i5, i6, i7, i8, broke
 use Rattle.rules.specs.Parts.{cards-fit, present-known, places-known}
 use Rattle.rules.specs.Faults.{lowest, of-certificates, of-executables, i3-site, sites, at-rule, no-fault, fault, offset-of, fault-offset}
 use Rattle.rules.specs.Named.{rules, is-right, i1-fields, Wrong-field, Lowest-at, Wrong-card, Within}
-use Rattle.rules.proofs.Tests.{is, and-l, and-r}
+use Rattle.rules.proofs.Tests.{and-l, and-r}
 use Rattle.rules.proofs.Accepts.{true-T}
 use Rattle.rules.proofs.Lowest.{Grows, lowest-below, lowest-with, lowest-told}
 use Rattle.rules.proofs.More.{all-grows}
@@ -35,7 +35,7 @@ use Rattle.rules.proofs.Faults.{i2-grows, i4-grows, i5-grows, i7-grows,
 module _ (l : List ℕ) where
   pub accepted-no-fault : accepted l ≡ true → fault l ≡ no-fault
   unfolding accepted fault
-  accepted-no-fault h = rw (is (broken l) 0 (true-T (eqb (broken l) 0) h))
+  accepted-no-fault h = rw (eqb→eq (broken l) 0 (true-T (eqb (broken l) 0) h))
 
   pub no-fault-accepted : fault l .rule ≡ 0 → accepted l ≡ true
   unfolding accepted fault

@@ -5,13 +5,12 @@ use mathlib.Core.Logic.{_≢_}
 use mathlib.Core.Path.{_≡_, refl, sym, ap, ap₂, _∙_}
 use native.Mathlib.Omega.{arith}
 use borrow.Author.Tests.{eq-eqb, ne-eqb}
-use lib.Dec.{eqb}
+use lib.Dec.{eqb, eqb→eq}
 use lib.ListN.{length, take, length-append}
 use lib.Seq.{take-all}
 use Rattle.octets.specs.Octets.{put}
 use Rattle.rules.specs.declared.Answer.{Answer}
 use Rattle.rules.specs.Step.{refused, refused-at, refusal}
-use Rattle.rules.proofs.Tests.{is}
 use Rattle.explanations.specs.Why.{Line}
 use Rattle.explanations.proofs.Lowest.{cond-cases}
 use Rattle.reasons.specs.declared.Why.{Why}
@@ -31,7 +30,7 @@ said-first l e p = (p .0 ∙ ap (put l 0) (sym e), p .1 ∙ ap length (sym e))
 
 refusal-code : (l : List ℕ) (c : ℕ) → refusal l c .code ≡ c
 unfolding refusal
-refusal-code l c = cond-cases (λ (a : Answer). a .code ≡ c) (eqb c 1) (refused-at l) (refused c) (λ t. sym (is c 1 t)) (λ t. refl)
+refusal-code l c = cond-cases (λ (a : Answer). a .code ≡ c) (eqb c 1) (refused-at l) (refused c) (λ t. sym (eqb→eq c 1 t)) (λ t. refl)
 
 module _ (l : List ℕ) (n : ℕ) {w : Why} (e : w ≡ why l n) where
   pub code-told : w .code ≡ why-code l n

@@ -1,11 +1,11 @@
 use mathlib.Core.Bool.{not, _&&_}
 use mathlib.Core.Path.{refl, sym, ap, subst, _∙_}
-use lib.Dec.{T, eqb}
+use lib.Dec.{T, eqb, eqb→eq}
 use Rattle.records.specs.Phone.{encode}
 use Rattle.rules.specs.Forms.{with-kind}
 use Rattle.rules.specs.Effects.{effect, card-in, card-rule}
 use Rattle.rules.specs.Step.{done}
-use Rattle.rules.proofs.Tests.{and-l, and-r, is}
+use Rattle.rules.proofs.Tests.{and-l, and-r}
 use Rattle.events.proofs.Handles.{handled-refused, handled-settled, handled-still, settleable, accepted-phone}
 use Rattle.events.proofs.Still.{card-idle, card-still}
 use borrow.Author.Needs.{needs}
@@ -48,7 +48,7 @@ returns-2 c =
     let v = c .before .before .before .before .before .before .has-valid-operator in
     let w : T (eqb (q .result) 0 && not (v .result)) = subst T (sym (c .before .before .before .before .before .if2 .taken)) tt in
     let ok = accepted-phone _ (z .pre .0) in
-    let none = sym (q .ensures) ∙ is (q .result) 0 (and-l (eqb (q .result) 0) (not (v .result)) w) in
+    let none = sym (q .ensures) ∙ eqb→eq (q .result) 0 (and-l (eqb (q .result) 0) (not (v .result)) w) in
     let unmarked = subst (λ x. T (not x)) (v .ensures) (and-r (eqb (q .result) 0) (not (v .result)) w) in
     handled-still _ (with-kind 2 (z .args .e)) _ (c .before .before .before .before .before .before .before .before .before .before .before .card-in .ensures) (c .before .before .before .before .before .before .before .before .before .before .if1 .left) (card-still _ ok (z .args .e) none unmarked) _ (c .refused2 .ensures) _ (c .before .before .before .card-only .ensures ∙ ap encode (sym (card-idle _ ok (z .args .e) unmarked)))
 
