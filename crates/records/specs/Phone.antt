@@ -7,7 +7,9 @@ use Rattle.records.specs.declared.Certificate.{Certificate}
 use Rattle.records.specs.declared.Card.{Card}
 use Rattle.records.specs.declared.Executable.{Executable}
 use Rattle.records.specs.declared.Row.{Row}
-use Rattle.records.specs.Sizes.{image-version, certificate-size, card-size, executable-size, row-size, certificates-start, cards-start, executables-start, table-start, image-end}
+use Rattle.records.specs.Sizes.{Sizes, newest, image-version, certificate-size, card-size, row-size}
+use Rattle.records.specs.Sizes.{cards-start-by, executables-start-by, table-start-by, image-end-by}
+use Rattle.records.specs.Sizes.{certificates-start, cards-start, executables-start, table-start, image-end}
 use Rattle.records.specs.Layout.{certificate-read, certificate-bytes, card-read, card-bytes, executable-read, executable-bytes, row-read, row-bytes}
 
 -- ---- the phone, split by what depends on what
@@ -94,32 +96,64 @@ table-at l = be32 l 32
 abbrev pub total-length : List ℕ → ℕ
 total-length l = be32 l 36
 
--- where the parts start, by the counts of the header
+-- where the parts start, by the counts of the header and the sizes of a version
+abbrev pub cards-from-by : Sizes → List ℕ → ℕ
+cards-from-by z l = cards-start-by z (certificate-slots l)
+
+abbrev pub executables-from-by : Sizes → List ℕ → ℕ
+executables-from-by z l = executables-start-by z (certificate-slots l) (card-count l)
+
+abbrev pub table-from-by : Sizes → List ℕ → ℕ
+table-from-by z l = table-start-by z (certificate-slots l) (card-count l) (executable-slots l)
+
+abbrev pub ends-at-by : Sizes → List ℕ → ℕ
+ends-at-by z l = image-end-by z (certificate-slots l) (card-count l) (executable-slots l) (action-count l)
+
+-- of the newest version
 abbrev pub cards-from : List ℕ → ℕ
-cards-from l = cards-start (certificate-slots l)
+cards-from l = cards-from-by newest l
 
 abbrev pub executables-from : List ℕ → ℕ
-executables-from l = executables-start (certificate-slots l) (card-count l)
+executables-from l = executables-from-by newest l
 
 abbrev pub table-from : List ℕ → ℕ
-table-from l = table-start (certificate-slots l) (card-count l) (executable-slots l)
+table-from l = table-from-by newest l
 
 abbrev pub ends-at : List ℕ → ℕ
-ends-at l = image-end (certificate-slots l) (card-count l) (executable-slots l) (action-count l)
+ends-at l = ends-at-by newest l
 
--- the phone of an image
-unfoldable pub decode : List ℕ → Phone
-decode l =
+-- how the images of a version are read: certificate i of n slots, and the executable whose first byte is at a
+pub record Reading : Type 0 where
+  pub sizes : Sizes
+  pub certificate : List ℕ → ℕ → ℕ → Certificate
+  pub executable : List ℕ → ℕ → Executable
+
+-- the phone of an image, by the reading of its version
+abbrev pub decode-by : Reading → List ℕ → Phone
+decode-by r l =
     record {
       trust = record {
         seen = record { clock = clock-time l; card = card-present l };
-        certificates = tabulate (certificate-slots l) (λ i. certificate-read l (certificates-start + i * certificate-size));
+        certificates = tabulate (certificate-slots l) (λ i. r .certificate l (certificate-slots l) i);
       };
       mode = standing-mode l;
-      cards = tabulate (card-count l) (λ i. card-read l (cards-from l + i * card-size));
-      executables = tabulate (executable-slots l) (λ i. executable-read l (executables-from l + i * executable-size));
-      table = tabulate (action-count l) (λ i. row-read l (table-from l + i * row-size));
+      cards = tabulate (card-count l) (λ i. card-read l (cards-from-by (r .sizes) l + i * card-size));
+      executables = tabulate (executable-slots l) (λ i. r .executable l (executables-from-by (r .sizes) l + i * r .sizes .executable));
+      table = tabulate (action-count l) (λ i. row-read l (table-from-by (r .sizes) l + i * row-size));
     }
+
+-- the newest version: one certificate after the other
+abbrev pub current : Reading
+current =
+    record {
+      sizes = newest;
+      certificate = λ l n i. certificate-read l (certificates-start + i * certificate-size);
+      executable = λ l a. executable-read l a;
+    }
+
+-- the phone of an image
+unfoldable pub decode : List ℕ → Phone
+decode l = decode-by current l
 
 -- ---- from a phone to bytes
 
@@ -160,17 +194,31 @@ row-at p i = getD (p .table) i no-row
 
 -- ---- the first byte of a record
 
+abbrev pub certificate-offset-by : Sizes → ℕ → ℕ
+certificate-offset-by z i = certificates-start + i * z .certificate
+
+abbrev pub card-offset-by : Sizes → Phone → ℕ → ℕ
+card-offset-by z p i = cards-start-by z (length (p .trust .certificates)) + i * card-size
+
+abbrev pub executable-offset-by : Sizes → Phone → ℕ → ℕ
+executable-offset-by z p i = executables-start-by z (length (p .trust .certificates)) (length (p .cards)) + i * z .executable
+
+abbrev pub row-offset-by : Sizes → Phone → ℕ → ℕ
+row-offset-by z p i =
+    table-start-by z (length (p .trust .certificates)) (length (p .cards)) (length (p .executables)) + i * row-size
+
+-- in the newest version
 abbrev pub certificate-offset : ℕ → ℕ
-certificate-offset i = certificates-start + i * certificate-size
+certificate-offset i = certificate-offset-by newest i
 
 abbrev pub card-offset : Phone → ℕ → ℕ
-card-offset p i = cards-start (length (p .trust .certificates)) + i * card-size
+card-offset p i = card-offset-by newest p i
 
 abbrev pub executable-offset : Phone → ℕ → ℕ
-executable-offset p i = executables-start (length (p .trust .certificates)) (length (p .cards)) + i * executable-size
+executable-offset p i = executable-offset-by newest p i
 
 abbrev pub row-offset : Phone → ℕ → ℕ
-row-offset p i = table-start (length (p .trust .certificates)) (length (p .cards)) (length (p .executables)) + i * row-size
+row-offset p i = row-offset-by newest p i
 
 -- ---- a phone or a record with one thing changed
 

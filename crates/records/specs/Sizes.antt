@@ -41,21 +41,43 @@ most-executables = 64
 abbrev pub most-actions : ℕ
 most-actions = 32
 
+-- the sizes that differ from version to version of an image, with the version that has them
+pub record Sizes : Type 0 where
+  pub version : ℕ
+  pub certificate : ℕ
+  pub executable : ℕ
+
+abbrev pub newest : Sizes
+newest = record { version = image-version; certificate = certificate-size; executable = executable-size }
+
 -- "Parts follow each other with no gap in that order, certificates at 40": for n certificate slots, m cards, k executable slots, a actions
 abbrev pub certificates-start : ℕ
 certificates-start = header-size
 
+abbrev pub cards-start-by : Sizes → ℕ → ℕ
+cards-start-by z n = certificates-start + n * z .certificate
+
+abbrev pub executables-start-by : Sizes → ℕ → ℕ → ℕ
+executables-start-by z n m = cards-start-by z n + m * card-size
+
+abbrev pub table-start-by : Sizes → ℕ → ℕ → ℕ → ℕ
+table-start-by z n m k = executables-start-by z n m + k * z .executable
+
+abbrev pub image-end-by : Sizes → ℕ → ℕ → ℕ → ℕ → ℕ
+image-end-by z n m k a = table-start-by z n m k + a * row-size
+
+-- of the newest version
 abbrev pub cards-start : ℕ → ℕ
-cards-start n = certificates-start + n * certificate-size
+cards-start = cards-start-by newest
 
 abbrev pub executables-start : ℕ → ℕ → ℕ
-executables-start n m = cards-start n + m * card-size
+executables-start = executables-start-by newest
 
 abbrev pub table-start : ℕ → ℕ → ℕ → ℕ
-table-start n m k = executables-start n m + k * executable-size
+table-start = table-start-by newest
 
 abbrev pub image-end : ℕ → ℕ → ℕ → ℕ → ℕ
-image-end n m k a = table-start n m k + a * row-size
+image-end = image-end-by newest
 
 -- "at most 2,536 bytes"
 abbrev pub largest-image : ℕ
