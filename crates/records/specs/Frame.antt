@@ -5,7 +5,7 @@ use mathlib.Core.List.{List, [], _∷_}
 use mathlib.Core.Path.{_≡_}
 use lib.ListN.{length}
 use lib.Dec.{eqb, leb}
-use Rattle.records.specs.Sizes.{Sizes, newest, header-size, most-certificates, most-cards, most-executables, most-actions}
+use Rattle.records.specs.Sizes.{Sizes, newest, header-size, most-certificates, most-cards, most-executables, most-actions, highest-mode}
 use Rattle.records.specs.Sizes.{certificates-start, cards-start, executables-start, table-start, image-end}
 use Rattle.records.specs.Phone.{Phone, version, certificate-slots, card-count, executable-slots, action-count, standing-mode, header-zero}
 use Rattle.records.specs.Phone.{certificates-at, cards-at, executables-at, table-at, total-length}
@@ -21,7 +21,7 @@ header-fits-by z l =
     && leb (executable-slots l) most-executables
     && leb 1 (action-count l)
     && leb (action-count l) most-actions
-    && leb (standing-mode l) 2
+    && leb (standing-mode l) highest-mode
     && eqb (header-zero l) 0
     && eqb (certificates-at l) certificates-start
     && eqb (cards-at l) (cards-from-by z l)
@@ -62,7 +62,7 @@ part-fields-by z l =
 abbrev pub setting-fields-by : Sizes → List ℕ → List Field
 setting-fields-by z l =
     (8 right-if (leb 1 (action-count l) && leb (action-count l) most-actions))
-    ∷ (10 right-if leb (standing-mode l) 2)
+    ∷ (10 right-if leb (standing-mode l) highest-mode)
     ∷ (14 right-if eqb (header-zero l) 0)
     ∷ part-fields-by z l
 

@@ -41,6 +41,10 @@ most-executables = 64
 abbrev pub most-actions : ℕ
 most-actions = 32
 
+-- "standing message mode 0..2"
+abbrev pub highest-mode : ℕ
+highest-mode = 2
+
 -- the sizes that differ from version to version of an image, with the version that has them
 pub record Sizes : Type 0 where
   pub version : ℕ

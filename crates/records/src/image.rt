@@ -4,19 +4,32 @@ use crate::Certificate;
 use crate::Executable;
 use crate::Header;
 use crate::Row;
+use crate::VERSION;
 ghost use mathlib.Core.Path.{_≡_};
 ghost use Prim.Native.Nat.{_+_, _≤_, _<_};
 ghost use lib.Dec.{eqb};
 ghost use lib.ListN.{length};
-ghost use Rattle.records.specs.Sizes.{most-certificates, most-cards, most-executables, most-actions};
+ghost use Rattle.records.specs.Sizes.{header-size, most-certificates, most-cards, most-executables, most-actions};
 ghost use Rattle.records.specs.Layout.{row-byte};
-ghost use Rattle.records.specs.Phone.{decode, encode, no-certificate, no-executable, certificate-at, card-at, executable-at, row-at, certificate-offset, card-offset, executable-offset, row-offset, with-clock, with-card, with-mode, put-certificate, put-executable, marked, enabling, in-domain, permitted};
+ghost use Rattle.records.specs.Phone.{decode, encode, no-certificate, no-executable, certificate-at, card-at, executable-at, row-at};
+ghost use Rattle.records.specs.Phone.{certificate-offset, card-offset, executable-offset, row-offset};
+ghost use Rattle.records.specs.Phone.{with-clock, with-card, with-mode, put-certificate, put-executable, marked, enabling, in-domain, permitted};
 ghost use Rattle.records.specs.Frame.{framed, header-fits, part-fields, setting-fields, total-byte, first-wrong, header-fault, Framed};
+
+// The largest image.
+pub const LARGEST: usize = Header::SIZE
+    + Certificate::MOST as usize * Certificate::SIZE
+    + Card::MOST as usize * Card::SIZE
+    + Executable::MOST as usize * Executable::SIZE
+    + Row::MOST as usize * Row::SIZE;
+
+// Certificates follow the header.
+const CERTIFICATES: u32 = Header::SIZE as u32;
 
 // ---- is it framed?
 
 fn header_fits(s: &[u8]) -> bool
-    requires { ⌜ 40 ≤ length (now s) ⌝ }
+    requires { ⌜ header-size ≤ length (now s) ⌝ }
     ensures { λ r. ⌜ r ≡ header-fits (now (s .entry)) ⌝ }
 {
     let n = Header::certificate_slots(s);
@@ -27,15 +40,15 @@ fn header_fits(s: &[u8]) -> bool
     let executables = cards + m as u32 * Card::SIZE as u32;
     let table = executables + k as u32 * Executable::SIZE as u32;
     let end = table + a as u32 * Row::SIZE as u32;
-    (Header::version(s) == 1)
-        & (n <= 64)
-        & (m <= 8)
-        & (k <= 64)
+    (Header::version(s) == VERSION)
+        & (n <= Certificate::MOST)
+        & (m <= Card::MOST)
+        & (k <= Executable::MOST)
         & (1 <= a)
-        & (a <= 32)
-        & (Header::mode(s) <= 2)
+        & (a <= Row::MOST)
+        & (Header::mode(s) <= Header::ENABLE_LISTED)
         & (Header::blank(s) == 0)
-        & (Header::certificates_at(s) == 40)
+        & (Header::certificates_at(s) == CERTIFICATES)
         & (Header::cards_at(s) == cards)
         & (Header::executables_at(s) == executables)
         & (Header::table_at(s) == table)
@@ -57,14 +70,14 @@ pub fn is_framed(s: &[u8]) -> bool
 
 // The first wrong field of those that say where the parts are; the total where the others are right.
 fn parts_fault(s: &[u8]) -> usize
-    requires { ⌜ 40 ≤ length (now s) ⌝ }
+    requires { ⌜ header-size ≤ length (now s) ⌝ }
     ensures { λ r. ⌜ r ≡ first-wrong (part-fields (now (s .entry))) total-byte ⌝ }
 {
     let cards = Header::SIZE as u32
         + Header::certificate_slots(s) as u32 * Certificate::SIZE as u32;
     let executables = cards + Header::card_count(s) as u32 * Card::SIZE as u32;
     let table = executables + Header::executable_slots(s) as u32 * Executable::SIZE as u32;
-    if Header::certificates_at(s) != 40 {
+    if Header::certificates_at(s) != CERTIFICATES {
         return Header::CERTIFICATES_AT;
     }
     if Header::cards_at(s) != cards {
@@ -81,17 +94,17 @@ fn parts_fault(s: &[u8]) -> usize
 
 // The same from the number of actions on.
 fn settings_fault(s: &[u8]) -> usize
-    requires { ⌜ 40 ≤ length (now s) ⌝ }
+    requires { ⌜ header-size ≤ length (now s) ⌝ }
     ensures { λ r. ⌜ r ≡ first-wrong (setting-fields (now (s .entry))) total-byte ⌝ }
 {
     let actions = Header::action_count(s);
     if actions == 0 {
         return Header::ACTION_COUNT;
     }
-    if actions > 32 {
+    if actions > Row::MOST {
         return Header::ACTION_COUNT;
     }
-    if Header::mode(s) > 2 {
+    if Header::mode(s) > Header::ENABLE_LISTED {
         return Header::MODE;
     }
     if Header::blank(s) != 0 {
@@ -108,16 +121,16 @@ pub fn header_fault(s: &[u8]) -> usize
     if size < Header::SIZE {
         return size;
     }
-    if Header::version(s) != 1 {
+    if Header::version(s) != VERSION {
         return Header::VERSION;
     }
-    if Header::certificate_slots(s) > 64 {
+    if Header::certificate_slots(s) > Certificate::MOST {
         return Header::CERTIFICATE_SLOTS;
     }
-    if Header::card_count(s) > 8 {
+    if Header::card_count(s) > Card::MOST {
         return Header::CARD_COUNT;
     }
-    if Header::executable_slots(s) > 64 {
+    if Header::executable_slots(s) > Executable::MOST {
         return Header::EXECUTABLE_SLOTS;
     }
     settings_fault(s)

@@ -1,4 +1,5 @@
-// The records of an image and of an event: sizes and offsets as constants of each record, and readers of a whole record and of one field.
+// The records of an image and of an event: sizes, offsets and what a field may say as constants of each record, and readers of a whole
+// record and of one field.
 pub mod image;
 
 ghost use mathlib.Core.Path.{_≡_};
@@ -6,8 +7,27 @@ ghost use Prim.Native.Nat.{_+_, _≤_};
 ghost use lib.ListN.{length};
 ghost use Rattle.records.specs.Sizes.{header-size, certificate-size, card-size, executable-size, row-size, event-size};
 ghost use Rattle.octets.specs.Octets.{put};
-ghost use Rattle.records.specs.Layout.{certificate-read, certificate-small, certificate-words, certificate-bytes, card-read, executable-read, executable-bytes, row-read, event-read};
-ghost use Rattle.records.specs.Phone.{version, certificate-slots, card-count, executable-slots, action-count, standing-mode, card-present, header-zero, clock-time, certificates-at, cards-at, executables-at, table-at, total-length};
+ghost use Rattle.records.specs.Layout.{certificate-read, certificate-small, certificate-words, certificate-bytes};
+ghost use Rattle.records.specs.Layout.{card-read, executable-read, executable-bytes, row-read, event-read};
+ghost use Rattle.records.specs.Phone.{version, certificate-slots, card-count, executable-slots, action-count, standing-mode, card-present};
+ghost use Rattle.records.specs.Phone.{header-zero, clock-time, certificates-at, cards-at, executables-at, table-at, total-length};
+
+// The version of an image.
+pub const VERSION: u16 = 1;
+
+// The domains, of certificates and of executables.
+pub const UNTRUSTED: u8 = 0;
+
+pub const OPERATOR: u8 = 1;
+
+pub const MANUFACTURER: u8 = 2;
+
+pub const THIRD_PARTY: u8 = 3;
+
+// What stands in the field `enabled` of a certificate.
+pub const DISABLED: u8 = 0;
+
+pub const ENABLED: u8 = 1;
 
 // The header of an image, which is never held as a whole.
 pub struct Header {}
@@ -42,6 +62,13 @@ impl Header {
     pub const TABLE_AT: usize = 32;
 
     pub const TOTAL: usize = 36;
+
+    // "standing message mode 0..2": the modes of a message.
+    pub const DISABLE_ALL: u16 = Event::DISABLE_ALL as u16;
+
+    pub const ENABLE_ALL: u16 = Event::ENABLE_ALL as u16;
+
+    pub const ENABLE_LISTED: u16 = Event::ENABLE_LISTED as u16;
 
     pub fn version(s: &[u8]) -> u16
         requires { ⌜ header-size ≤ length (now s) ⌝ }
@@ -157,6 +184,8 @@ pub struct Certificate {
 }
 
 impl Certificate {
+    pub const MOST: u16 = 64;
+
     pub const SIZE: usize = 24;
 
     pub const ID: usize = 0;
@@ -178,6 +207,16 @@ impl Certificate {
     pub const OWNER: usize = 16;
 
     pub const EXPIRY: usize = 20;
+
+    // Kinds.
+    pub const ROOT: u8 = 0;
+
+    pub const ISSUED: u8 = 1;
+
+    // Marks.
+    pub const INVALID: u8 = 0;
+
+    pub const VALID: u8 = 1;
 
     pub fn read(s: &[u8], at: usize) -> Certificate
         requires { ⌜ at + certificate-size ≤ length (now s) ⌝ }
@@ -306,6 +345,8 @@ pub struct Card {
 }
 
 impl Card {
+    pub const MOST: u16 = 8;
+
     pub const SIZE: usize = 8;
 
     pub const NUMBER: usize = 0;
@@ -357,6 +398,8 @@ pub struct Executable {
 }
 
 impl Executable {
+    pub const MOST: u16 = 64;
+
     pub const SIZE: usize = 12;
 
     pub const ID: usize = 0;
@@ -438,6 +481,8 @@ pub struct Row {
 }
 
 impl Row {
+    pub const MOST: u16 = 32;
+
     pub const SIZE: usize = 4;
 
     pub const UNTRUSTED: usize = 0;
@@ -447,6 +492,13 @@ impl Row {
     pub const MANUFACTURER: usize = 2;
 
     pub const THIRD: usize = 3;
+
+    // What a byte of the table lets an executable do.
+    pub const NEVER: u8 = 0;
+
+    pub const WITH_PERMISSION: u8 = 1;
+
+    pub const FREELY: u8 = 2;
 
     pub fn read(s: &[u8], at: usize) -> Row
         requires { ⌜ at + row-size ≤ length (now s) ⌝ }
@@ -525,6 +577,57 @@ impl Event {
     pub const OWNER: usize = 16;
 
     pub const EXPIRY: usize = 20;
+
+    // Kinds.
+    pub const CLOCK: u8 = 1;
+
+    pub const CARD_IN: u8 = 2;
+
+    pub const CARD_OUT: u8 = 3;
+
+    pub const POWER_UP: u8 = 4;
+
+    pub const INSTALL_CERTIFICATE: u8 = 5;
+
+    pub const DELETE_CERTIFICATE: u8 = 6;
+
+    pub const MARK_VALID: u8 = 7;
+
+    pub const MARK_INVALID: u8 = 8;
+
+    pub const MESSAGE: u8 = 9;
+
+    pub const INSTALL_EXECUTABLE: u8 = 10;
+
+    pub const DELETE_EXECUTABLE: u8 = 11;
+
+    pub const VERIFY: u8 = 12;
+
+    pub const GIVE: u8 = 13;
+
+    pub const WITHDRAW: u8 = 14;
+
+    pub const REQUEST: u8 = 15;
+
+    // Actors.
+    pub const DEVICE: u8 = 0;
+
+    pub const USER: u8 = 1;
+
+    pub const OPERATOR: u8 = 2;
+
+    pub const MANUFACTURER: u8 = 3;
+
+    pub const ADMINISTRATOR: u8 = 4;
+
+    // Modes of a message, and how many ids it lists at most.
+    pub const DISABLE_ALL: u8 = 0;
+
+    pub const ENABLE_ALL: u8 = 1;
+
+    pub const ENABLE_LISTED: u8 = 2;
+
+    pub const MOST_LISTED: u8 = 8;
 
     pub fn read(s: &[u8], at: usize) -> Event
         requires { ⌜ at + event-size ≤ length (now s) ⌝ }

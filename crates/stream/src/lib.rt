@@ -1,5 +1,6 @@
 // What the programs share: an image as it comes from a descriptor, and text put into a buffer. Nothing is judged here.
 use records::Header;
+use records::image;
 ghost use Prim.Native.Nat.{_+_, _≤_};
 ghost use mathlib.Core.Path.{_≡_};
 ghost use lib.ListN.{length};
@@ -7,9 +8,6 @@ ghost use Rattle.octets.specs.Octets.{put};
 ghost use Rattle.records.specs.Sizes.{largest-image};
 ghost use Rattle.stream.specs.Decimal.{most-digits, decimal, column};
 ghost use Rattle.stream.specs.Refusal.{image-refused, longest-refusal};
-
-// The largest image: 64 certificates, 8 cards, 64 executables and 32 actions.
-pub const LARGEST: usize = 2536;
 
 // Reads a header and then the bytes up to the total that it tells, and answers how many came: fewer where the input
 // ends. Behind a header with a total that no image has, nothing more is read.
@@ -25,7 +23,7 @@ pub fn read_image(fd: i32, s: &mut [u8]) -> usize
     if total < Header::SIZE {
         return Header::SIZE;
     }
-    if LARGEST < total {
+    if image::LARGEST < total {
         return Header::SIZE;
     }
     let more = io::read_full(fd, &mut s[Header::SIZE..total]);
