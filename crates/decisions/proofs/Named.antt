@@ -7,8 +7,8 @@ use Rattle.records.specs.Phone.{Phone, no-certificate, no-executable, certifica
 use Rattle.records.specs.declared.Certificate.{Certificate}
 use Rattle.records.specs.declared.Executable.{Executable}
 use Rattle.rules.specs.Codes.{has-id, is-executable, certificate-named, executable-named, certificate-known, executable-known}
-use Rattle.lookup.specs.Places.{first-place}
-use Rattle.lookup.proofs.Places.{place-none, place-some, place-named}
+use Rattle.rules.specs.Words.{first-place}
+use Rattle.rules.proofs.Places.{place-none, place-some, place-named}
 
 module _ (p : Phone) (id : ℕ) {i : ℕ} where
   module _ (at : i ≡ first-place (has-id id) (p .trust .certificates)) where

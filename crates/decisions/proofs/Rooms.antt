@@ -8,14 +8,14 @@ use lib.Dec.{ltb→lt}
 use lib.ListN.{length}
 use Rattle.records.specs.declared.Certificate.{Certificate}
 use Rattle.records.specs.declared.Executable.{Executable}
-use Rattle.rules.specs.Words.{any, _⇒_, first}
+use Rattle.rules.specs.Words.{any, _⇒_, first, first-place}
 use Rattle.rules.specs.Codes.{has-id, is-executable}
 use Rattle.rules.proofs.Accepts.{true-T}
 use Rattle.lookup.specs.declared.Room.{Room}
 use Rattle.lookup.specs.declared.Room.the-variants.{Taken, Full, Free}
 use Rattle.lookup.specs.declared.CertificateRoom.{CertificateRoom}
-use Rattle.lookup.specs.Places.{first-place, in-another, executable-room, certificate-room}
-use Rattle.lookup.proofs.Places.{place-told}
+use Rattle.lookup.specs.Places.{in-another, executable-room, certificate-room}
+use Rattle.rules.proofs.Places.{place-told}
 
 -- a slot that is the first to pass, where one passes
 first-within : {A : Type 0} (t : A → Bool) (l : List A) {i : ℕ} → i ≡ first-place t l → any t l ≡ true → i < length l

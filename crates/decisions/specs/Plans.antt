@@ -5,15 +5,13 @@ use mathlib.Core.List.{List, [], _∷_}
 use mathlib.Core.Path.{_≡_}
 use lib.Dec.{eqb}
 use lib.ListN.{length}
-use Rattle.bits.specs.Bits.{has-bit}
 use Rattle.records.specs.Layout.{row-byte}
 use Rattle.records.specs.Phone.{Phone, row-at}
 use Rattle.records.specs.declared.Executable.{Executable}
 use Rattle.records.specs.declared.Event.{Event}
-use Rattle.rules.specs.Words.{Check, _⇒_, first}
+use Rattle.rules.specs.Words.{Check, _⇒_, first, first-place}
 use Rattle.rules.specs.Actors.{may-act}
-use Rattle.rules.specs.Codes.{has-id, is-executable, executable-known, code-of}
-use Rattle.lookup.specs.Places.{first-place}
+use Rattle.rules.specs.Codes.{has-id, is-executable, executable-known, has-permission, code-of}
 use Rattle.rules.specs.Forms.{with-kind}
 use Rattle.decisions.specs.declared.Plan.{Plan}
 
@@ -60,5 +58,5 @@ Named k p e r = Planned (first (naming-rows k p e)) (first-place (is-executable 
 abbrev pub table-rows : Phone → Executable → ℕ → List Check
 table-rows p x a =
     (eqb (row-byte (row-at p a) (x .domain)) 0 ⇒ 15)
-    ∷ ((eqb (row-byte (row-at p a) (x .domain)) 1 && not (has-bit (x .permissions) a)) ⇒ 16)
+    ∷ ((eqb (row-byte (row-at p a) (x .domain)) 1 && not (has-permission x a)) ⇒ 16)
     ∷ []

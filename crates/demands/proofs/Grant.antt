@@ -8,12 +8,11 @@ use native.Mathlib.Omega.{arith}
 use native.Mathlib.Nat.{le-refl}
 use lib.Dec.{T, eqb, ltb, ltb→lt, lt→ltb, eqb→eq}
 use lib.ListN.{length, getD}
-use Rattle.bits.specs.Bits.{has-bit}
 use Rattle.records.specs.Layout.{row-byte}
 use Rattle.records.specs.Phone.{Phone, no-executable, no-row, row-at}
 use Rattle.records.specs.declared.Executable.{Executable}
 use Rattle.rules.specs.Forms.{action-form}
-use Rattle.rules.specs.Codes.{is-executable, executable-named, executable-known, table-byte, code-of}
+use Rattle.rules.specs.Codes.{is-executable, executable-named, executable-known, table-byte, has-permission, code-of}
 use Rattle.rules.specs.Demands.{request-event}
 use Rattle.rules.proofs.Tests.{tests, by-test, nand, not-elim, not-intro, eq→eqb, neqb→ne}
 use Rattle.rules.proofs.Lists.{find-in, any-in}
@@ -36,7 +35,7 @@ byte-for p n a = row-byte (row-at p a) (executable-named p n .domain)
 
 -- its permission for the action
 abbrev permission-for : Phone → ℕ → ℕ → Bool
-permission-for p n a = has-bit (executable-named p n .permissions) a
+permission-for p n a = has-permission (executable-named p n) a
 
 -- a request answered 0, taken apart
 record Grant (p : Phone) (n a : ℕ) : Type 0 where
@@ -180,5 +179,5 @@ no-more q p u ok n a h =
 
     permission : byte-for p n a ≡ 1 → T (permission-for p n a)
     permission one =
-        subst (λ x. T (has-bit (x .permissions) a)) (sym (the .1))
+        subst (λ x. T (has-permission x a)) (sym (the .1))
         (o .below .permissions a (g .permission (omega (arith, g .some-byte, more))))

@@ -4,10 +4,10 @@ use mathlib.Core.List.{List·Memᴰ}
 use mathlib.Core.Logic.{_≢_, _⊎_, inl, inr}
 use mathlib.Core.Path.{_≡_, refl, _∙_}
 use lib.Dec.{T}
-use Rattle.bits.specs.Bits.{has-bit}
 use Rattle.records.specs.Phone.{Trust, Phone}
 use Rattle.records.specs.declared.Executable.{Executable}
 use Rattle.rules.specs.Chains.{chains-to}
+use Rattle.rules.specs.Codes.{has-permission}
 use Rattle.rules.specs.Explicit.{Root, Issued}
 use Rattle.rules.proofs.Keys.{Key, by-root, by-issued}
 use Rattle.rules.proofs.Shortest.{chains-key, chains-signed, key-chains}
@@ -40,7 +40,7 @@ pub record Below (lo hi : Executable) : Type 0 where
   pub id : lo .id ≡ hi .id
   pub signing : lo .signing ≡ hi .signing
   pub domain : (lo .domain ≡ 0) ⊎ (lo .domain ≡ hi .domain)
-  pub permissions : (a : ℕ) → T (has-bit (lo .permissions) a) → T (has-bit (hi .permissions) a)
+  pub permissions : (a : ℕ) → T (has-permission lo a) → T (has-permission hi a)
 
 pub below-refl : (x : Executable) → Below x x
 below-refl x = record { id = refl; signing = refl; domain = inr refl; permissions = λ a h. h }

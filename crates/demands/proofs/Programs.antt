@@ -15,7 +15,7 @@ use Rattle.records.specs.declared.Executable.{Executable}
 use Rattle.records.specs.declared.Event.{Event}
 use Rattle.rules.specs.Words.{at, change, fill, distinct}
 use Rattle.rules.specs.Chains.{chains-to, chain-of}
-use Rattle.rules.specs.ImageRules.{free-executable}
+use Rattle.rules.specs.ImageRules.{free-executable, chained-fits}
 use Rattle.rules.specs.Forms.{with-kind, executable-form}
 use Rattle.rules.specs.Codes.{is-executable, executable-known, id-taken}
 use Rattle.rules.specs.Effects.{tick, card-in, card-out, card-rule, power-up, install-certificate, delete-certificate, mark-valid, mark-invalid, message}
@@ -25,7 +25,6 @@ use Rattle.rules.proofs.Lists.{none-out, fill-out}
 use Rattle.rules.proofs.Distinct.{distinct-map, distinct-fill}
 use Rattle.rules.proofs.Changes.{at-cases}
 use Rattle.rules.proofs.Domain.{chain-small}
-use Rattle.rules.specs.Parts.{chained-fits}
 use Rattle.rules.proofs.Accepts.{chained-out}
 use Rattle.rules.proofs.Accepted.{Stored}
 use Rattle.demands.proofs.ByKind.{by-kind}

@@ -21,8 +21,7 @@ use Rattle.rules.specs.declared.Site.{Site}
 use Rattle.rules.specs.Words.{all}
 use Rattle.rules.specs.Chains.{most-links}
 use Rattle.rules.specs.Explicit.{Chain-within, Shortest}
-use Rattle.rules.specs.ImageRules.{i2, i4, i5, row-fits, i7, i8, accepted, «open»}
-use Rattle.rules.specs.Parts.{cards-fit, present-known, places-known}
+use Rattle.rules.specs.ImageRules.{i2, i4, i5, row-fits, i7, i8, accepted, «open», cards-fit, present-known, places-known}
 use Rattle.rules.specs.Faults.{of-certificates, of-executables, at-rule, no-fault, fault, fault-offset}
 use Rattle.rules.specs.Named.{rules, is-right, i1-fields, Wrong-field, Lowest-at, Wrong-card, Within}
 use Rattle.rules.specs.Codes.{executable-named, rows, code}

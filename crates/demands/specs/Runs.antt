@@ -6,7 +6,6 @@ use mathlib.Core.Logic.{_≢_, _⊎_}
 use mathlib.Core.Path.{_≡_}
 use lib.Dec.{T, eqb}
 use lib.ListN.{length}
-use Rattle.bits.specs.Bits.{has-bit}
 use Rattle.records.specs.Layout.{row-byte, event-read, event-bytes}
 use Rattle.records.specs.Phone.{Phone, row-at, decode}
 use Rattle.records.specs.declared.Certificate.{Certificate}
@@ -15,7 +14,7 @@ use Rattle.rules.specs.Words.{Check, _⇒_}
 use Rattle.rules.specs.Chains.{present, most-links}
 use Rattle.rules.specs.Explicit.{Chain-within}
 use Rattle.rules.specs.ImageRules.{valid-in}
-use Rattle.rules.specs.Codes.{executable-named, executable-known, code}
+use Rattle.rules.specs.Codes.{executable-named, executable-known, has-permission, code}
 use Rattle.rules.specs.Step.{step, run}
 use Rattle.rules.specs.Demands.{withdrawing, giving, verify-event}
 
@@ -79,6 +78,6 @@ pub record Granted (p : Phone) (n a : ℕ) : Type 0 where
   pub known : T (executable-known p n)
   pub action : a < length (p .table)
   pub byte : (row-byte (row-at p a) (executable-named p n .domain) ≡ 2)
-      ⊎ ((row-byte (row-at p a) (executable-named p n .domain) ≡ 1) × T (has-bit (executable-named p n .permissions) a))
+      ⊎ ((row-byte (row-at p a) (executable-named p n .domain) ≡ 1) × T (has-permission (executable-named p n) a))
   pub chain : executable-named p n .domain ≢ 0
       → (executable-named p n .signing ≢ 0) × Chain-within most-links (p .trust) (executable-named p n .domain) (executable-named p n .signing)

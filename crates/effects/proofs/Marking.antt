@@ -10,11 +10,10 @@ use Rattle.records.specs.Phone.{decode, encode, no-certificate, certificate-at,
 use Rattle.records.specs.Frame.{Framed}
 use Rattle.records.specs.declared.Certificate.{Certificate}
 use Rattle.records.specs.declared.Event.{Event}
-use Rattle.rules.specs.Words.{at, distinct}
+use Rattle.rules.specs.Words.{at, distinct, first-place}
 use Rattle.rules.specs.Codes.{has-id, certificate-named}
 use Rattle.rules.specs.Effects.{phone-operator-root, on-a-card, after-marking, mark-valid}
 use Rattle.rules.proofs.Slots.{set-is}
-use Rattle.lookup.specs.Places.{first-place}
 use Rattle.opening.specs.Opened.{Accepted-image}
 use Rattle.effects.specs.Sweeps.{outgoing, retire}
 use Rattle.effects.proofs.Parts.{certificates, says, framed-as}

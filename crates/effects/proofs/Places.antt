@@ -9,9 +9,8 @@ use lib.Dec.{T, eqb, eqb→eq}
 use lib.ListN.{length, getD, set}
 use Rattle.records.specs.Phone.{decode, encode}
 use Rattle.records.specs.Frame.{Framed}
-use Rattle.rules.specs.Words.{change, find, fill, distinct}
+use Rattle.rules.specs.Words.{change, find, fill, distinct, first-place}
 use Rattle.rules.proofs.Slots.{set-is, fill-is, find-is}
-use Rattle.lookup.specs.Places.{first-place}
 use Rattle.opening.specs.Opened.{Accepted-image}
 use Rattle.effects.proofs.Parts.{Part}
 

@@ -11,14 +11,13 @@ ghost use lib.Dec.{eqb};
 ghost use lib.ListN.{length};
 ghost use Rattle.records.specs.Phone.{decode, encode, with-card, with-certificates, with-executables, executable-at};
 ghost use Rattle.records.specs.Frame.{Framed};
-ghost use Rattle.rules.specs.Words.{any, fill};
+ghost use Rattle.rules.specs.Words.{any, fill, first-place};
 ghost use Rattle.rules.specs.Chains.{chain-of};
 ghost use Rattle.rules.specs.ImageRules.{free-certificate};
 ghost use Rattle.rules.specs.Forms.{listed};
 ghost use Rattle.rules.specs.Codes.{has-id, is-executable};
 ghost use Rattle.rules.specs.Effects.{tick, card-rule, card-in, card-out, power-up, delete-certificate, on-a-card, mark-valid, mark-invalid, enabled-by, message, install-executable, delete-executable, verify, give, withdraw, settle};
 ghost use Rattle.chain.specs.Keys.{good-slots};
-ghost use Rattle.lookup.specs.Places.{first-place};
 ghost use Rattle.opening.specs.Opened.{Accepted-image};
 ghost use Rattle.effects.specs.Sweeps.{outgoing, retire, disables, settle-in, Next-unchained, Domains-known};
 

@@ -19,8 +19,8 @@ use Rattle.rules.proofs.Accepted.{Accepted}
 use Rattle.rules.proofs.Accepts.{true-T}
 use Rattle.demands.proofs.Heard.{named-verified, none-links}
 use Rattle.demands.proofs.Verified.{verdict, one-verified, verify-changed}
-use Rattle.lookup.specs.Places.{first-place}
-use Rattle.lookup.proofs.Places.{place-find, place-some}
+use Rattle.rules.specs.Words.{first-place}
+use Rattle.rules.proofs.Places.{place-find, place-some}
 use Rattle.events.proofs.Still.{request-unchanged}
 
 -- what is told of an executable

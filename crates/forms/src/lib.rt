@@ -6,7 +6,8 @@ use records::Row;
 ghost use mathlib.Core.Path.{_≡_};
 ghost use Prim.Native.Nat.{_≤_};
 ghost use Rattle.rules.specs.ImageRules.{zero-certificate, certificate-ranges, root-fits, issued-fits, certificate-fits, key-of-one-domain, row-fits, zero-executable, executable-fits};
-ghost use Rattle.rules.specs.Parts.{apart, slot-fits, card-fits, program-fits};
+ghost use Rattle.rules.specs.ImageRules.{slot-fits, card-fits, program-fits};
+ghost use Rattle.rules.specs.Parts.{apart};
 
 // Ids, and numbers of cards: 0 stands as often as it likes.
 pub fn apart(n: u16, m: u16) -> bool

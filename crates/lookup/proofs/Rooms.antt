@@ -6,12 +6,12 @@ use mathlib.Core.Path.{_≡_}
 use lib.ListN.{length}
 use Rattle.records.specs.declared.Certificate.{Certificate}
 use Rattle.records.specs.declared.Executable.{Executable}
-use Rattle.rules.specs.Words.{any}
+use Rattle.rules.specs.Words.{any, first-place}
 use Rattle.rules.specs.Codes.{has-id, is-executable}
 use Rattle.lookup.specs.declared.Room.{Room}
 use Rattle.lookup.specs.declared.CertificateRoom.{CertificateRoom}
-use Rattle.lookup.specs.Places.{first-place, in-another, executable-room, certificate-room}
-use Rattle.lookup.proofs.Places.{place-none, place-some}
+use Rattle.lookup.specs.Places.{in-another, executable-room, certificate-room}
+use Rattle.rules.proofs.Places.{place-none, place-some}
 
 module _ (id : ℕ) (l : List Executable) where
   pub executable-taken : any (is-executable id) l ≡ true → Room.Taken ≡ executable-room id l

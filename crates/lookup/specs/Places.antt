@@ -1,19 +1,14 @@
--- Where a record stands, and the room for one more. Definitions only.
-use Prim.Native.Nat.{ℕ, suc}
+-- The room for one more record. Definitions only.
+use Prim.Native.Nat.{ℕ}
 use mathlib.Core.Bool.{Bool, cond, not, _&&_}
-use mathlib.Core.List.{List, [], _∷_}
+use mathlib.Core.List.{List}
 use lib.Dec.{eqb}
 use Rattle.records.specs.declared.Certificate.{Certificate}
 use Rattle.records.specs.declared.Executable.{Executable}
-use Rattle.rules.specs.Words.{any}
+use Rattle.rules.specs.Words.{any, first-place}
 use Rattle.rules.specs.Codes.{has-id, is-executable}
 use Rattle.lookup.specs.declared.Room.{Room}
 use Rattle.lookup.specs.declared.CertificateRoom.{CertificateRoom}
-
--- the number of the first slot that passes the test, or of all slots where none does
-unfoldable pub first-place : {A : Type 0} → (A → Bool) → List A → ℕ
-first-place t [] = 0
-first-place t (x ∷ l) = cond (t x) 0 (suc (first-place t l))
 
 -- "id taken", or the lowest free slot, or none
 unfoldable pub executable-room : ℕ → List Executable → Room

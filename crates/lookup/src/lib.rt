@@ -10,7 +10,8 @@ ghost use Rattle.records.specs.Phone.{decode};
 ghost use Rattle.records.specs.Frame.{Framed};
 ghost use Rattle.rules.specs.ImageRules.{in-card-table, known-place, operator-of, valid-in, has-valid-operator};
 ghost use Rattle.rules.specs.Codes.{has-id, is-executable};
-ghost use Rattle.lookup.specs.Places.{first-place, in-another, executable-room, certificate-room};
+ghost use Rattle.lookup.specs.Places.{in-another, executable-room, certificate-room};
+ghost use Rattle.rules.specs.Words.{first-place};
 
 // The slot of the certificate with this id, or the number of slots where there is none. Id 0 finds the lowest free slot.
 pub fn certificate_slot(s: &[u8], id: u16) -> usize

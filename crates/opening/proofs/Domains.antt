@@ -11,8 +11,7 @@ use Rattle.records.specs.Phone.{Trust, Phone, no-executable}
 use Rattle.records.specs.declared.Executable.{Executable}
 use Rattle.rules.specs.Words.{all}
 use Rattle.rules.specs.Chains.{chains-to}
-use Rattle.rules.specs.ImageRules.{i7, i8}
-use Rattle.rules.specs.Parts.{program-fits, chained-fits}
+use Rattle.rules.specs.ImageRules.{i7, i8, program-fits, chained-fits}
 use Rattle.rules.specs.Faults.{lowest, of-executables}
 use Rattle.rules.proofs.Accepted.{Stored}
 use Rattle.rules.proofs.Accepts.{chained-out}

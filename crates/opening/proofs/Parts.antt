@@ -15,8 +15,8 @@ use Rattle.records.specs.declared.Card.{Card}
 use Rattle.rules.specs.Words.{_implies_, all}
 use Rattle.rules.specs.declared.Site.{Site}
 use Rattle.rules.specs.declared.Fault.{Fault}
-use Rattle.rules.specs.ImageRules.{valid-in, known-place, row-fits, i2, i3, i4, i5, i6, i7, i8}
-use Rattle.rules.specs.Parts.{apart, slot-fits, cards-fit, present-known, places-known, i5-with}
+use Rattle.rules.specs.ImageRules.{valid-in, known-place, row-fits, i2, i3, i4, i5, i6, i7, i8, slot-fits, cards-fit, present-known, places-known}
+use Rattle.rules.specs.Parts.{apart, i5-with}
 use Rattle.rules.specs.Faults.{lowest, of-certificates, of-executables, certificate-site, executable-site, i3-site, at-rule, no-fault}
 use Rattle.rules.proofs.Tests.{eq→eqb, or-i, eqb-turn}
 use Rattle.rules.proofs.Lists.{all-in}

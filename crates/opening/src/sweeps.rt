@@ -9,7 +9,8 @@ ghost use Rattle.records.specs.Phone.{decode, certificate-at, card-at, executab
 ghost use Rattle.records.specs.Frame.{Framed};
 ghost use Rattle.rules.specs.Words.{all};
 ghost use Rattle.rules.specs.ImageRules.{valid-in, known-place, key-of-one-domain, card-owns, one-in-place, one-manufacturer, row-fits, i4, i5, i7};
-ghost use Rattle.rules.specs.Parts.{apart, slot-fits, cards-fit, card-with, i4-with, not-both, owned-by-card, i5-pair, i5-with, program-with};
+ghost use Rattle.rules.specs.ImageRules.{slot-fits, cards-fit, not-both, owned-by-card};
+ghost use Rattle.rules.specs.Parts.{apart, card-with, i4-with, i5-pair, i5-with, program-with};
 ghost use Rattle.rules.specs.Faults.{lowest, of-certificates, of-executables};
 ghost use Rattle.chain.specs.Keys.{good-slots, chained-in};
 

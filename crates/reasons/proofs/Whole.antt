@@ -13,7 +13,7 @@ use Rattle.octets.proofs.Laws.{put-none}
 use Rattle.records.specs.Phone.{Trust, decode, no-executable}
 use Rattle.records.specs.declared.Executable.{Executable}
 use Rattle.rules.specs.declared.Chained.{Chained}
-use Rattle.rules.specs.Words.{any}
+use Rattle.rules.specs.Words.{any, first-place}
 use Rattle.rules.specs.Chains.{chain-domain, links, chain-of, most-links}
 use Rattle.rules.specs.declared.Answer.{Answer}
 use Rattle.rules.specs.declared.Fault.{Fault}
@@ -25,8 +25,7 @@ use Rattle.rules.specs.Codes.{is-executable, executable-named, executable-known
 use Rattle.rules.proofs.Tests.{eq→eqb, ne→neqb, not-intro}
 use Rattle.rules.proofs.Accepts.{true-T}
 use Rattle.rules.proofs.Shortest.{links-small}
-use Rattle.lookup.specs.Places.{first-place}
-use Rattle.lookup.proofs.Places.{place-none, place-some, place-named}
+use Rattle.rules.proofs.Places.{place-none, place-some, place-named}
 use Rattle.opening.specs.Opened.{Accepted-image}
 use Rattle.explanations.specs.Why.{Line, has-key, chain-told, unsigned-line, unheld-line, untrusted-line}
 use Rattle.explanations.specs.Why.{chained, unsigned, held, despite, explained, explanation}

@@ -6,20 +6,21 @@ use mathlib.Core.Logic.{_≢_, _⊎_, inl, inr}
 use mathlib.Core.Path.{_≡_, refl, subst, sym}
 use lib.Dec.{T, eqb, eqb→eq}
 use lib.ListN.{length}
-use Rattle.records.specs.Phone.{Trust, Phone, decode}
+use Rattle.records.specs.Phone.{Seen, Trust, Phone, decode}
 use Rattle.records.specs.Frame.{framed}
 use Rattle.records.specs.declared.Certificate.{Certificate}
 use Rattle.records.specs.declared.Executable.{Executable}
 use Rattle.rules.specs.Words.{all, all-pairs, Check, _⇒_}
 use Rattle.rules.specs.Chains.{chains-to}
-use Rattle.rules.specs.ImageRules.{known-place, row-fits, key-of-one-domain, card-owns, one-in-place, yields-to-card, one-manufacturer}
-use Rattle.rules.specs.ImageRules.{i1, i2, i3, i4, i5, i6, i7, i8, broken, accepted}
-use Rattle.rules.specs.Parts.{slot-fits, card-fits, program-fits, chained-fits}
+use Rattle.rules.specs.ImageRules.{slot-fits, card-fits, known-place, places-known, key-of-one-domain, card-owns}
+use Rattle.rules.specs.ImageRules.{one-in-place, not-both, owned-by-card, one-manufacturer, row-fits, program-fits, chained-fits}
+use Rattle.rules.specs.ImageRules.{i1, i2, i3, i4, i5, i6, i7, i8, cards-fit, phone-rules, broken, accepted}
 use Rattle.rules.proofs.Tests.{tests, neqb→ne, and-i, or-j, or-cases, by-test, not-elim, not-intro, Passes, first-out, first-in}
 use Rattle.rules.proofs.Lists.{all-out, all-in, pairs-out, pairs-in}
 use Rattle.rules.proofs.Accepted.{Held, Valid, Marks, Accepted}
 use Rattle.rules.proofs.Fits.{slot-out, slot-in, named-out, named-in, executable-out, executable-in}
-use Rattle.rules.proofs.Pairs.{key-out, key-in, owns-out, owns-in, in-place-out, in-place-in, manufacturer-out, manufacturer-in, has-valid-in, has-valid-out, Yields, yields-out, yields-in}
+use Rattle.rules.proofs.Pairs.{key-out, key-in, owns-out, owns-in}
+use Rattle.rules.proofs.Pairs.{in-place-out, in-place-in, not-both-out, not-both-in, owned-out, owned-in, manufacturer-out, manufacturer-in}
 
 -- the tests of a phone
 pub record Ruled (p : Phone) : Type 0 where
@@ -34,7 +35,7 @@ pub record Ruled (p : Phone) : Type 0 where
 -- ---- from the tests
 
 held-out : (p : Phone) → Ruled p → Held (p .cards) (p .trust .certificates)
-unfolding i2 i3 i4
+unfolding i2 i3 i4 cards-fit
 held-out p r =
     let l = p .trust .certificates in
     let h3 = r .i3 in
@@ -47,29 +48,16 @@ held-out p r =
       owners = λ c m. owns-out (p .cards) c (all-out (card-owns (p .cards)) l (search tests) c m);
     }
 
--- with a card present, what I5 asks of a valid operator root on the phone
-yields : (p : Phone) → T (i5 p) → p .trust .seen .card ≢ 0 → (c : Certificate) → List·Memᴰ c (p .trust .certificates)
-    → Valid 1 (p .trust .seen .clock) c → c .place ≡ 0 → Yields p c
-unfolding i5
-yields p h nz c m =
-    go (or-cases (eqb (p .trust .seen .card) 0) (all (yields-to-card p) (p .trust .certificates)) (search tests))
-  where
-    go : T (eqb (p .trust .seen .card) 0) ⊎ T (all (yields-to-card p) (p .trust .certificates)) → Valid 1 (p .trust .seen .clock) c → c .place ≡ 0 → Yields p c
-    go (inl t) = absurd (nz (eqb→eq (p .trust .seen .card) 0 t))
-    go (inr t) = yields-out p c (all-out (yields-to-card p) (p .trust .certificates) t c m)
-
 pub marks-out : (p : Phone) → T (i5 p) → Marks (p .cards) (p .trust .seen) (p .trust .certificates)
 unfolding i5
 marks-out p h =
     let l = p .trust .certificates in
-    let k = p .trust .seen .card in
-    let t = p .trust .seen .clock in
+    let s = p .trust .seen in
     record {
-      one-each = λ c e m n. in-place-out t c e (pairs-out (one-in-place t) l (search tests) c e m n);
-      not-both = λ c e m n v w q g.
-          by-test (eqb k 0) (λ z. eqb→eq k 0 z) (λ z. absurd (yields p h (neqb→ne k 0 z) c m v q .none-there (has-valid-in (p .trust) k e n w g)));
-      mine = λ c m v q z. yields p h z c m v q .owner;
-      one-maker = λ c e m n. manufacturer-out t c e (pairs-out (one-manufacturer t) l (search tests) c e m n);
+      one-each = λ c e m n. in-place-out (s .clock) c e (pairs-out (one-in-place (s .clock)) l (search tests) c e m n);
+      not-both = λ c e m n. not-both-out s c e (pairs-out (not-both s) l (search tests) c e m n);
+      mine = λ c m. owned-out (p .cards) s c (all-out (owned-by-card (p .cards) s) l (search tests) c m);
+      one-maker = λ c e m n. manufacturer-out (s .clock) c e (pairs-out (one-manufacturer (s .clock)) l (search tests) c e m n);
     }
 
 -- I8, of one executable
@@ -81,7 +69,7 @@ chained-out t x h nz = go (or-cases (eqb (x .domain) 0) (chains-to t (x .signing
     go (inr z) = z
 
 pub accepts-out : (p : Phone) → Ruled p → Accepted p
-unfolding i3 i6 i7 i8
+unfolding i3 i6 i7 i8 cards-fit
 accepts-out p r =
     let n = length (p .table) in
     let h3 = r .i3 in
@@ -108,46 +96,37 @@ i4-in p h =
 
 pub i5-in : (p : Phone) → Marks (p .cards) (p .trust .seen) (p .trust .certificates) → T (i5 p)
 unfolding i5
-i5-in p o = search (and-i, each, none, maker)
+i5-in p o = search (and-i, each, both, mine, maker)
   where
     l : List Certificate
     l = p .trust .certificates
 
-    k : ℕ
-    k = p .trust .seen .card
+    s : Seen
+    s = p .trust .seen
 
-    t : ℕ
-    t = p .trust .seen .clock
+    each : T (all-pairs (one-in-place (s .clock)) l)
+    each = pairs-in (one-in-place (s .clock)) l (λ c e m n. in-place-in (s .clock) c e (o .one-each c e m n))
 
-    each : T (all-pairs (one-in-place t) l)
-    each = pairs-in (one-in-place t) l (λ c e m n. in-place-in t c e (o .one-each c e m n))
+    both : T (all-pairs (not-both s) l)
+    both = pairs-in (not-both s) l (λ c e m n. not-both-in s c e (o .not-both c e m n))
 
-    maker : T (all-pairs (one-manufacturer t) l)
-    maker = pairs-in (one-manufacturer t) l (λ c e m n. manufacturer-in t c e (o .one-maker c e m n))
+    mine : T (all (owned-by-card (p .cards) s) l)
+    mine = all-in (owned-by-card (p .cards) s) l (λ c m. owned-in (p .cards) s c (o .mine c m))
 
-    none-there : k ≢ 0 → (c : Certificate) → List·Memᴰ c l → Valid 1 t c → c .place ≡ 0 → Yields p c
-    none-there nz c m v z =
-        record {
-          none-there = λ h. let s = has-valid-out (p .trust) k h in let g = s .passes in nz (o .not-both c (s .it) m (s .mem) v (search tests) z (search tests));
-          owner = o .mine c m v z nz;
-        }
-
-    none : T (eqb k 0 || all (yields-to-card p) l)
-    none =
-        by-test (eqb k 0) (λ z. search tests)
-        (λ z. or-j (eqb k 0) (all (yields-to-card p) l) (all-in (yields-to-card p) l (λ c m. yields-in p c (none-there (neqb→ne k 0 z) c m))))
+    maker : T (all-pairs (one-manufacturer (s .clock)) l)
+    maker = pairs-in (one-manufacturer (s .clock)) l (λ c e m n. manufacturer-in (s .clock) c e (o .one-maker c e m n))
 
 chained-in : (t : Trust) (x : Executable) → (x .domain ≢ 0 → T (chains-to t (x .signing) (x .domain))) → T (chained-fits t x)
 chained-in t x h =
     by-test (eqb (x .domain) 0) (λ z. search tests) (λ z. or-j (eqb (x .domain) 0) (chains-to t (x .signing) (x .domain)) (h (neqb→ne (x .domain) 0 z)))
 
 pub accepts-in : (p : Phone) → Accepted p → Ruled p
-unfolding i2 i3 i6 i7 i8
+unfolding i2 i3 i6 i7 i8 cards-fit
 accepts-in p o =
     let l = p .trust .certificates in
     let n = length (p .table) in
     let c : T (all card-fits (p .cards)) = all-in card-fits (p .cards) (λ k m. named-in k (o .cards k m)) in
-    let q : T (all (λ c. known-place (p .cards) (c .place)) l) = all-in (λ c. known-place (p .cards) (c .place)) l (o .trust .held .places) in
+    let q : T (places-known (p .cards) l) = all-in (λ c. known-place (p .cards) (c .place)) l (o .trust .held .places) in
     let x : T (all (program-fits n) (p .executables)) = all-in (program-fits n) (p .executables) (λ x m. executable-in n x (o .executables x m)) in
     record {
       i2 = all-in slot-fits l (λ c m. slot-in c (o .trust .held .slots c m));
@@ -162,16 +141,7 @@ accepts-in p o =
 -- ---- bytes
 
 abbrev rules-of : List ℕ → List Check
-rules-of l =
-    (not (i1 l) ⇒ 1)
-    ∷ (not (i2 (decode l)) ⇒ 2)
-    ∷ (not (i3 (decode l)) ⇒ 3)
-    ∷ (not (i4 (decode l)) ⇒ 4)
-    ∷ (not (i5 (decode l)) ⇒ 5)
-    ∷ (not (i6 (decode l)) ⇒ 6)
-    ∷ (not (i7 (decode l)) ⇒ 7)
-    ∷ (not (i8 (decode l)) ⇒ 8)
-    ∷ []
+rules-of l = (not (i1 l) ⇒ 1) ∷ phone-rules (decode l)
 
 pub T-true : (b : Bool) → T b → b ≡ true
 T-true true h = refl

@@ -6,23 +6,22 @@ use mathlib.Core.Logic.{_≢_}
 use mathlib.Core.Path.{_≡_, refl, sym, ap, _∙_}
 use lib.Dec.{T, eqb, ltb}
 use lib.ListN.{length}
-use Rattle.records.specs.Phone.{Seen, Phone, with-certificates}
+use Rattle.records.specs.Phone.{Seen, Phone}
 use Rattle.records.specs.declared.Certificate.{Certificate}
 use Rattle.records.specs.declared.Card.{Card}
 use Rattle.records.specs.declared.Executable.{Executable}
 use Rattle.rules.specs.declared.Fault.{Fault}
 use Rattle.rules.specs.Words.{_implies_, all, all-pairs}
-use Rattle.rules.specs.ImageRules.{valid-in, known-place, key-of-one-domain, card-owns, one-in-place, one-manufacturer}
-use Rattle.rules.specs.Parts.{apart, slot-fits, card-fits, cards-fit, card-with, places-known, i4-with, not-both, owned-by-card, i5-parts, i5-pair, i5-with}
-use Rattle.rules.specs.Parts.{program-fits, program-with, chained-fits}
+use Rattle.rules.specs.ImageRules.{known-place, slot-fits, card-fits, cards-fit, places-known, key-of-one-domain, card-owns, valid-in}
+use Rattle.rules.specs.ImageRules.{one-in-place, not-both, owned-by-card, one-manufacturer, program-fits, chained-fits}
+use Rattle.rules.specs.Parts.{apart, card-with, i4-with, i5-pair, i5-with, program-with}
 use Rattle.rules.specs.ImageRules.{i2, i4, i5, i7, i8}
 use Rattle.rules.specs.Faults.{lowest, of-certificates, of-executables}
-use Rattle.rules.proofs.Tests.{tests, and-i, same}
-use Rattle.rules.proofs.Accepts.{T-true, true-T, marks-out, i5-in}
-use Rattle.rules.proofs.Accepted.{Marks}
-use Rattle.rules.proofs.Lists.{all-out, all-in, pairs-out, pairs-in}
-use Rattle.rules.proofs.Pairs.{key-out, key-in, in-place-out, in-place-in, not-both-out, not-both-in, owned-out, owned-in, manufacturer-out, manufacturer-in}
-use Rattle.rules.proofs.Lowest.{Grows, both-grow, grows-same, grows-as, lowest-told}
+use Rattle.rules.proofs.Tests.{same}
+use Rattle.rules.proofs.Accepts.{T-true, true-T}
+use Rattle.rules.proofs.Lists.{all-in}
+use Rattle.rules.proofs.Pairs.{key-out, key-in, in-place-out, in-place-in, not-both-in, manufacturer-out, manufacturer-in}
+use Rattle.rules.proofs.Lowest.{Grows, both-grow, grows-as, lowest-told}
 use Rattle.rules.proofs.More.{all-grows, all-and, pairs-grow, even-pairs-grow, distinct-grows}
 
 -- ---- the tests of pairs: each certificate passes with itself, and three of the four are even
@@ -67,39 +66,6 @@ module _ (t : ℕ) where
 pub not-both-grows : (s : Seen) → Grows (all-pairs (not-both s)) (λ l x. all (λ y. not-both s x y && not-both s y x) l)
 not-both-grows s = pairs-grow (not-both s) (λ c. T-true (not-both s c c) (not-both-in s c c (λ v w q g. sym g ∙ q)))
 
--- ---- I5 by its sentences
-
-i5-parts-out : (cards : List Card) (s : Seen) (l : List Certificate) → T (i5-parts cards s l) → Marks cards s l
-i5-parts-out cards s l h =
-    record {
-      one-each = λ c e m n. in-place-out (s .clock) c e (pairs-out (one-in-place (s .clock)) l (search tests) c e m n);
-      not-both = λ c e m n. not-both-out s c e (pairs-out (not-both s) l (search tests) c e m n);
-      mine = λ c m. owned-out cards s c (all-out (owned-by-card cards s) l (search tests) c m);
-      one-maker = λ c e m n. manufacturer-out (s .clock) c e (pairs-out (one-manufacturer (s .clock)) l (search tests) c e m n);
-    }
-
-i5-parts-in : (cards : List Card) (s : Seen) (l : List Certificate) → Marks cards s l → T (i5-parts cards s l)
-i5-parts-in cards s l o = search (and-i, each, both, mine, maker)
-  where
-    each : T (all-pairs (one-in-place (s .clock)) l)
-    each = pairs-in (one-in-place (s .clock)) l (λ c e m n. in-place-in (s .clock) c e (o .one-each c e m n))
-
-    both : T (all-pairs (not-both s) l)
-    both = pairs-in (not-both s) l (λ c e m n. not-both-in s c e (o .not-both c e m n))
-
-    mine : T (all (owned-by-card cards s) l)
-    mine = all-in (owned-by-card cards s) l (λ c m. owned-in cards s c (o .mine c m))
-
-    maker : T (all-pairs (one-manufacturer (s .clock)) l)
-    maker = pairs-in (one-manufacturer (s .clock)) l (λ c e m n. manufacturer-in (s .clock) c e (o .one-maker c e m n))
-
-pub i5-by-parts : (p : Phone) → i5 p ≡ i5-parts (p .cards) (p .trust .seen) (p .trust .certificates)
-i5-by-parts p =
-    let k = p .cards in
-    let s = p .trust .seen in
-    let l = p .trust .certificates in
-    same (i5 p) (i5-parts k s l) (λ h. i5-parts-in k s l (marks-out p h)) (λ h. i5-in p (i5-parts-out k s l h))
-
 -- ---- the rules
 
 pub cards-grow : Grows cards-fit card-with
@@ -128,13 +94,13 @@ module _ (p : Phone) where
       as-asked l c = turn (all (λ y. apart (c .id) (y .id)) l) (all (key-of-one-domain c) l) (card-owns (p .cards) c)
 
   pub i5-grows : Grows (of-certificates i5 p) (i5-with (p .cards) (p .trust .seen))
+  unfolding i5
   i5-grows =
-      grows-same (λ l. i5-by-parts (with-certificates l p))
-      (grows-as as-asked
+      grows-as as-asked
       (both-grow
       (both-grow (both-grow (each-place-grows (p .trust .seen .clock)) (not-both-grows (p .trust .seen)))
       (all-grows (owned-by-card (p .cards) (p .trust .seen))))
-      (manufacturers-grow (p .trust .seen .clock))))
+      (manufacturers-grow (p .trust .seen .clock)))
     where
       turn : (e o m : Bool) → ((e && o) && m) ≡ (o && (e && m))
       turn true o m = refl

@@ -11,7 +11,7 @@ use Rattle.records.specs.declared.Card.{Card}
 use Rattle.records.specs.declared.Executable.{Executable}
 use Rattle.rules.specs.Words.{_implies_, all-zero}
 use Rattle.rules.specs.ImageRules.{free-certificate, free-executable, zero-certificate, certificate-ranges, root-fits, issued-fits, certificate-fits, zero-executable, executable-fits}
-use Rattle.rules.specs.Parts.{slot-fits, card-fits, program-fits}
+use Rattle.rules.specs.ImageRules.{slot-fits, card-fits, program-fits}
 use Rattle.rules.proofs.Tests.{tests, eq→eqb, neqb→ne, ne→neqb, and-i, or-i, or-cases, by-test, cond-no, yes-cond, no-cond, implies-out, implies-in}
 use Rattle.rules.proofs.Accepted.{Occupied, Named, Stored}
 

@@ -11,6 +11,7 @@ pub mod Changes
 pub mod Marks
 pub mod Least
 pub mod Loops
+pub mod Places
 pub mod Keys
 pub mod Shortest
 pub mod Domain

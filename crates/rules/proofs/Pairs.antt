@@ -8,8 +8,8 @@ use lib.Dec.{T, eqb, T-not, not-T, eqb→eq}
 use Rattle.records.specs.Phone.{Seen, Trust, Phone}
 use Rattle.records.specs.declared.Certificate.{Certificate}
 use Rattle.records.specs.declared.Card.{Card}
-use Rattle.rules.specs.ImageRules.{operator-of, operator-root, valid-in, has-valid-operator, key-of-one-domain, card-owns, one-in-place, yields-to-card, one-manufacturer}
-use Rattle.rules.specs.Parts.{not-both, owned-by-card}
+use Rattle.rules.specs.ImageRules.{operator-of, operator-root, valid-in, has-valid-operator, key-of-one-domain, card-owns}
+use Rattle.rules.specs.ImageRules.{one-in-place, not-both, owned-by-card, one-manufacturer}
 use Rattle.rules.proofs.Tests.{tests, eq→eqb, and-i, implies-out, implies-in}
 use Rattle.rules.proofs.Lists.{Some, any-in, any-out}
 use Rattle.rules.proofs.Accepted.{Valid}
@@ -76,32 +76,6 @@ has-valid-in t n c m v e = any-in (valid-at t n) m (search tests)
 pub has-valid-out : (t : Trust) (n : ℕ) → T (has-valid-operator t n) → Some (valid-at t n) (t .certificates)
 unfolding has-valid-operator
 has-valid-out t n h = any-out (valid-at t n) (t .certificates) h
-
--- what a valid operator root on the phone goes with, where a card is present
-pub record Yields (p : Phone) (c : Certificate) : Type 0 where
-  pub none-there : T (has-valid-operator (p .trust) (p .trust .seen .card)) → ⊥
-  pub owner : c .owner ≡ operator-of (p .cards) (p .trust .seen .card)
-
-module _ (p : Phone) (c : Certificate) where
-  abbrev yielding : Bool
-  yielding =
-      not (has-valid-operator (p .trust) (p .trust .seen .card)) && eqb (c .owner) (operator-of (p .cards) (p .trust .seen .card))
-
-  pub yields-out : T (yields-to-card p c) → Valid 1 (p .trust .seen .clock) c → c .place ≡ 0 → Yields p c
-  unfolding yields-to-card
-  yields-out h v z =
-      let y = implies-out (valid-at (p .trust) 0 c) yielding h (search tests) in
-      record { none-there = T-not (has-valid-operator (p .trust) (p .trust .seen .card)) (search tests); owner = search tests }
-
-  pub yields-in : (Valid 1 (p .trust .seen .clock) c → c .place ≡ 0 → Yields p c) → T (yields-to-card p c)
-  unfolding yields-to-card
-  yields-in f = implies-in (valid-at (p .trust) 0 c) yielding (λ h. go (f (search tests) (search tests)))
-    where
-      go : Yields p c → T yielding
-      go y =
-          and-i (not (has-valid-operator (p .trust) (p .trust .seen .card))) (eqb (c .owner) (operator-of (p .cards) (p .trust .seen .card)))
-          (not-T (has-valid-operator (p .trust) (p .trust .seen .card)) (y .none-there))
-          (eq→eqb (c .owner) (operator-of (p .cards) (p .trust .seen .card)) (y .owner))
 
 -- ---- I5's sentences about the card present, one by one
 

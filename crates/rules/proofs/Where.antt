@@ -20,8 +20,7 @@ use Rattle.records.proofs.Said.{length-certificates, length-cards, length-execu
 use Rattle.records.proofs.Fields.{fields}
 use Rattle.rules.specs.declared.Site.{Site}
 use Rattle.rules.specs.Words.{all, Check, _⇒_, first}
-use Rattle.rules.specs.ImageRules.{i1, i2, i3, i4, i5, i6, i7, i8, broken, accepted, row-fits}
-use Rattle.rules.specs.Parts.{cards-fit, present-known, places-known}
+use Rattle.rules.specs.ImageRules.{i1, i2, i3, i4, i5, i6, i7, i8, broken, accepted, cards-fit, present-known, places-known, row-fits}
 use Rattle.rules.specs.Faults.{lowest, of-certificates, of-executables, i3-site, sites, at-rule, no-fault, fault, offset-of, fault-offset}
 use Rattle.rules.specs.Named.{rules, is-right, i1-fields, Wrong-field, Lowest-at, Wrong-card, Within}
 use Rattle.rules.proofs.Tests.{and-l, and-r}

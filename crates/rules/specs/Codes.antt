@@ -132,10 +132,14 @@ table-byte p e = row-byte (row-at p (e .second)) (executable-named p (e .id) .do
 unfoldable pub never : Phone → Event → Bool
 never p e = eqb (e .kind) 15 && eqb (table-byte p e) 0
 
+-- "The user's permissions are held as one bit for each action": x has the permission for action a
+abbrev pub has-permission : Executable → ℕ → Bool
+has-permission x a = has-bit (x .permissions) a
+
 -- 16: "request: table byte 1 and no permission"
 unfoldable pub not-permitted : Phone → Event → Bool
 not-permitted p e =
-    eqb (e .kind) 15 && eqb (table-byte p e) 1 && not (has-bit (executable-named p (e .id) .permissions) (e .second))
+    eqb (e .kind) 15 && eqb (table-byte p e) 1 && not (has-permission (executable-named p (e .id)) (e .second))
 
 -- ---- "The lowest that applies is given."
 

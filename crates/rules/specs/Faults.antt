@@ -10,8 +10,7 @@ use Rattle.records.specs.declared.Executable.{Executable}
 use Rattle.rules.specs.declared.Site.{Site}
 use Rattle.rules.specs.declared.Fault.{Fault}
 use Rattle.rules.specs.Words.{all}
-use Rattle.rules.specs.ImageRules.{row-fits, i2, i4, i5, i7, i8, broken}
-use Rattle.rules.specs.Parts.{present-known, places-known, cards-fit}
+use Rattle.rules.specs.ImageRules.{cards-fit, present-known, places-known, row-fits, i2, i4, i5, i7, i8, broken}
 
 -- the first number below n that passes, and n where none does
 unfoldable pub first-number : ℕ → (ℕ → Bool) → ℕ

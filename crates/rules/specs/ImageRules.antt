@@ -4,13 +4,13 @@ use mathlib.Core.Bool.{Bool, cond, not, _&&_, _||_}
 use mathlib.Core.List.{List, [], _∷_, map}
 use lib.Dec.{eqb, leb, ltb}
 use lib.ListN.{length}
-use Rattle.records.specs.Phone.{Trust, Phone, decode, no-card}
+use Rattle.records.specs.Phone.{Seen, Trust, Phone, decode, no-card}
 use Rattle.records.specs.Frame.{framed}
 use Rattle.records.specs.declared.Certificate.{Certificate}
 use Rattle.records.specs.declared.Card.{Card}
 use Rattle.records.specs.declared.Executable.{Executable}
 use Rattle.records.specs.declared.Row.{Row}
-use Rattle.rules.specs.Words.{between, _implies_, any, all, all-pairs, distinct, all-zero, find, first, _⇒_}
+use Rattle.rules.specs.Words.{between, _implies_, any, all, all-pairs, distinct, all-zero, find, Check, _⇒_, first}
 use Rattle.rules.specs.Chains.{valid-root, chains-to}
 
 -- ---- words of the rules
@@ -79,18 +79,31 @@ unfoldable pub certificate-fits : Certificate → Bool
 certificate-fits c =
     certificate-ranges c && (eqb (c .kind) 0 implies root-fits c) && (eqb (c .kind) 1 implies issued-fits c)
 
+abbrev pub slot-fits : Certificate → Bool
+slot-fits c = cond (free-certificate c) (zero-certificate c) (certificate-fits c)
+
 unfoldable pub i2 : Phone → Bool
-i2 p = all (λ c. cond (free-certificate c) (zero-certificate c) (certificate-fits c)) (p .trust .certificates)
+i2 p = all slot-fits (p .trust .certificates)
 
 -- ---- I3 Card
 
--- "u16 number (not 0, distinct), u16 zero, u32 operator. Card present is 0 or in the table. Each certificate's place is 0 or in the table."
+abbrev pub card-fits : Card → Bool
+card-fits k = not (eqb (k .number) 0) && eqb (k .blank) 0
+
+-- "u16 number (not 0, distinct), u16 zero, u32 operator."
+unfoldable pub cards-fit : List Card → Bool
+cards-fit cards = all card-fits cards && distinct (map (λ k. k .number) cards)
+
+-- "Card present is 0 or in the table."
+abbrev pub present-known : Phone → Bool
+present-known p = known-place (p .cards) (p .trust .seen .card)
+
+-- "Each certificate's place is 0 or in the table."
+abbrev pub places-known : List Card → List Certificate → Bool
+places-known cards l = all (λ c. known-place cards (c .place)) l
+
 unfoldable pub i3 : Phone → Bool
-i3 p =
-    all (λ k. not (eqb (k .number) 0) && eqb (k .blank) 0) (p .cards)
-    && distinct (map (λ k. k .number) (p .cards))
-    && known-place (p .cards) (p .trust .seen .card)
-    && all (λ c. known-place (p .cards) (c .place)) (p .trust .certificates)
+i3 p = cards-fit (p .cards) && present-known p && places-known (p .cards) (p .trust .certificates)
 
 -- ---- I4
 
@@ -117,11 +130,15 @@ unfoldable pub one-in-place : ℕ → Certificate → Certificate → Bool
 one-in-place clock c e =
     (valid-in 1 clock c && valid-in 1 clock e && eqb (c .place) (e .place)) implies eqb (c .id) (e .id)
 
--- "none on the phone while the present card has one; with a card present, the one on the phone has the card's operator as owner"
-unfoldable pub yields-to-card : Phone → Certificate → Bool
-yields-to-card p c =
-    (valid-in 1 (p .trust .seen .clock) c && eqb (c .place) 0)
-    implies (not (has-valid-operator (p .trust) (p .trust .seen .card)) && eqb (c .owner) (operator-of (p .cards) (p .trust .seen .card)))
+-- "none on the phone while the present card has one": c is on the phone and e on that card
+unfoldable pub not-both : Seen → Certificate → Certificate → Bool
+not-both seen c e =
+    (valid-in 1 (seen .clock) c && valid-in 1 (seen .clock) e && eqb (c .place) 0 && eqb (e .place) (seen .card)) implies eqb (seen .card) 0
+
+-- "with a card present, the one on the phone has the card's operator as owner"
+unfoldable pub owned-by-card : List Card → Seen → Certificate → Bool
+owned-by-card cards seen c =
+    (valid-in 1 (seen .clock) c && eqb (c .place) 0 && not (eqb (seen .card) 0)) implies eqb (c .owner) (operator-of cards (seen .card))
 
 -- "At most one valid-marked manufacturer root."
 unfoldable pub one-manufacturer : ℕ → Certificate → Certificate → Bool
@@ -129,9 +146,12 @@ one-manufacturer clock c e = (valid-in 2 clock c && valid-in 2 clock e) implies 
 
 unfoldable pub i5 : Phone → Bool
 i5 p =
-    all-pairs (one-in-place (p .trust .seen .clock)) (p .trust .certificates)
-    && (eqb (p .trust .seen .card) 0 || all (yields-to-card p) (p .trust .certificates))
-    && all-pairs (one-manufacturer (p .trust .seen .clock)) (p .trust .certificates)
+    let seen = p .trust .seen in
+    let l = p .trust .certificates in
+    all-pairs (one-in-place (seen .clock)) l
+    && all-pairs (not-both seen) l
+    && all (owned-by-card (p .cards) seen) l
+    && all-pairs (one-manufacturer (seen .clock)) l
 
 -- ---- I6 Table
 
@@ -154,34 +174,41 @@ zero-executable x = all-zero (x .id ∷ x .domain ∷ x .blank ∷ x .signing �
 unfoldable pub executable-fits : ℕ → Executable → Bool
 executable-fits actions x = leb (x .domain) 3 && eqb (x .blank) 0 && ltb (x .permissions) (2 ^ actions)
 
+abbrev pub program-fits : ℕ → Executable → Bool
+program-fits actions x = cond (free-executable x) (zero-executable x) (executable-fits actions x)
+
 -- "Ids are distinct and not 0."
 unfoldable pub i7 : Phone → Bool
 i7 p =
-    all (λ x. cond (free-executable x) (zero-executable x) (executable-fits (length (p .table)) x)) (p .executables)
+    all (program-fits (length (p .table))) (p .executables)
     && distinct (map (λ x. x .id) (p .executables))
 
 -- ---- I8
 
 -- "An executable with domain d not 0 chains to d."
+abbrev pub chained-fits : Trust → Executable → Bool
+chained-fits t x = eqb (x .domain) 0 || chains-to t (x .signing) (x .domain)
+
 unfoldable pub i8 : Phone → Bool
-i8 p = all (λ x. eqb (x .domain) 0 || chains-to (p .trust) (x .signing) (x .domain)) (p .executables)
+i8 p = all (chained-fits (p .trust)) (p .executables)
 
 -- ---- "The image rules, checked in this order"
 
--- the first broken rule, and 0 where none is
-unfoldable pub broken : List ℕ → ℕ
-broken l =
-    let p = decode l in
-    first
-    ((not (i1 l) ⇒ 1)
-    ∷ (not (i2 p) ⇒ 2)
+-- those that ask the phone and not its bytes
+abbrev pub phone-rules : Phone → List Check
+phone-rules p =
+    (not (i2 p) ⇒ 2)
     ∷ (not (i3 p) ⇒ 3)
     ∷ (not (i4 p) ⇒ 4)
     ∷ (not (i5 p) ⇒ 5)
     ∷ (not (i6 p) ⇒ 6)
     ∷ (not (i7 p) ⇒ 7)
     ∷ (not (i8 p) ⇒ 8)
-    ∷ [])
+    ∷ []
+
+-- the first broken rule, and 0 where none is
+unfoldable pub broken : List ℕ → ℕ
+broken l = first ((not (i1 l) ⇒ 1) ∷ phone-rules (decode l))
 
 unfoldable pub accepted : List ℕ → Bool
 accepted l = eqb (broken l) 0

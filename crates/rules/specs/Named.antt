@@ -10,8 +10,7 @@ use Rattle.records.specs.Phone.{decode}
 use Rattle.records.specs.Frame.{Field, _right-if_, framed, header-fields, total-field}
 use Rattle.rules.specs.declared.Site.{Site}
 use Rattle.rules.specs.Words.{all}
-use Rattle.rules.specs.ImageRules.{i1, i2, i3, i4, i5, i6, i7, i8}
-use Rattle.rules.specs.Parts.{cards-fit, present-known, places-known}
+use Rattle.rules.specs.ImageRules.{i1, i2, i3, i4, i5, i6, i7, i8, cards-fit, present-known, places-known}
 
 -- the rules of an image, I1 first
 abbrev pub rules : List ℕ → List Bool

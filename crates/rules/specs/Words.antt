@@ -45,6 +45,11 @@ unfoldable pub find : {A : Type 0} → (A → Bool) → A → List A → A
 find t d [] = d
 find t d (x ∷ l) = cond (t x) x (find t d l)
 
+-- the number of the first element that passes, or of all of them where none does
+unfoldable pub first-place : {A : Type 0} → (A → Bool) → List A → ℕ
+first-place t [] = 0
+first-place t (x ∷ l) = cond (t x) 0 (suc (first-place t l))
+
 -- a in the place of the first element that passes: the lowest
 unfoldable pub fill : {A : Type 0} → (A → Bool) → A → List A → List A
 fill t a [] = []

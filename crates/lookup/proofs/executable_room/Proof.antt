@@ -6,11 +6,10 @@ use mathlib.Core.Bool.{false}
 use mathlib.Core.Path.{_≡_, sym, _∙_}
 use lib.ListN.{length, drop}
 use Rattle.records.specs.Phone.{decode, no-executable}
-use Rattle.rules.specs.Words.{any}
+use Rattle.rules.specs.Words.{any, first-place}
 use Rattle.rules.specs.Codes.{is-executable}
 use Rattle.rules.proofs.Loops.{any-back, any-back-done, any-end}
-use Rattle.lookup.specs.Places.{first-place}
-use Rattle.lookup.proofs.Places.{place-back-here, place-back, place-back-done, place-back-end, somewhere}
+use Rattle.rules.proofs.Places.{place-back-here, place-back, place-back-done, place-back-end, somewhere}
 use Rattle.lookup.proofs.Rooms.{executable-taken, executable-full, executable-free}
 use Rattle.lookup.proofs.executable_room.Statement.{statement}
 use Rattle.lookup.proofs.executable_room.Tie as tie

@@ -7,8 +7,8 @@ use lib.ListN.{length, drop}
 use mathlib.Core.Path.{_≡_, sym, _∙_}
 use Rattle.records.specs.Phone.{decode, no-executable}
 use Rattle.rules.specs.Codes.{is-executable}
-use Rattle.lookup.specs.Places.{first-place}
-use Rattle.lookup.proofs.Places.{place-here, place-next, place-past}
+use Rattle.rules.specs.Words.{first-place}
+use Rattle.rules.proofs.Places.{place-here, place-next, place-past}
 use Rattle.lookup.proofs.executable_slot.Statement.{statement}
 use Rattle.lookup.proofs.executable_slot.Tie as tie
 

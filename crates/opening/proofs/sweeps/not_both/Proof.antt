@@ -1,4 +1,4 @@
-use Rattle.rules.specs.Parts.{not-both}
+use Rattle.rules.specs.ImageRules.{not-both}
 use Rattle.rules.specs.Words.{_implies_}
 use borrow.Author.Needs.{needs}
 use Rattle.opening.proofs.sweeps.not_both.Statement.{statement}

@@ -1,5 +1,5 @@
 use Rattle.opening.proofs.Parts.{implied, spared}
-use Rattle.rules.specs.Parts.{owned-by-card}
+use Rattle.rules.specs.ImageRules.{owned-by-card}
 use borrow.Author.Needs.{needs}
 use Rattle.opening.proofs.sweeps.owned_by_card.Statement.{statement}
 use Rattle.opening.proofs.sweeps.owned_by_card.Tie as tie
