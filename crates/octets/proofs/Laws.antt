@@ -38,12 +38,14 @@ put-more l i vs a h =
     rw (drop-cons l (i + length vs) 0, e)
     (set-at (take i l ++ vs) (getD l (i + length vs) 0) (drop (suc (i + length vs)) l) a (i + length vs) t ∙ simp append-assoc)
 
-pub clear-more : (l s : List ℕ) (i k : ℕ) → s ≡ put l i (zeros k) → i + k < length l → set s (i + k) 0 ≡ put l i (zeros (k + 1))
-clear-more l s i k e h =
-    let z : length (zeros k) ≡ k = length-replicate k 0 in
-    ap (λ (x : List ℕ). set x (i + k) 0) e
-    ∙ subst (λ (n : ℕ). set (put l i (zeros k)) (i + n) 0 ≡ put l i (zeros k ++ (0 ∷ []))) z (put-more l i (zeros k) 0 (omega arith))
-    ∙ ap (put l i) (replicate-append-replicate k 1 0)
+-- a store behind the run
+module _ (l : List ℕ) (i : ℕ) {m n : List ℕ} where
+  pub put-next : (vs : List ℕ) (a : ℕ) {j : ℕ} → m ≡ put l i vs → n ≡ set m j a → i + length vs ≡ j → j < length l → n ≡ put l i (vs ++ (a ∷ []))
+  put-next vs a {j} e q z h = q ∙ ap₂ (λ (x : List ℕ) (k : ℕ). set x k a) e (sym z) ∙ put-more l i vs a (omega arith)
+
+  pub zeros-next : (k : ℕ) → m ≡ put l i (zeros k) → n ≡ set m (i + k) 0 → i + k < length l → n ≡ put l i (zeros (k + 1))
+  zeros-next k e q h =
+      put-next (zeros k) 0 e q (ap (λ (x : ℕ). i + x) (length-replicate k 0)) h ∙ ap (put l i) (replicate-append-replicate k 1 0)
 
 -- ---- what stands in the run, and what stands outside
 
@@ -85,9 +87,6 @@ pub be-skip : (w : ℕ) (xs ys : List ℕ) (k : ℕ) → be w (xs ++ ys) (length
 be-skip w xs ys k =
     be-same w (xs ++ ys) ys (length xs + k) k
     (λ j hj. ap (λ (n : ℕ). getD (xs ++ ys) n 0) (add-assoc (length xs) k j) ∙ getD-append-add xs ys (k + j) 0)
-
-pub be-start : (w : ℕ) (xs ys : List ℕ) → be w (xs ++ ys) (length xs) ≡ be w ys 0
-be-start w xs ys = ap (be w (xs ++ ys)) (sym (add-zero (length xs))) ∙ be-skip w xs ys 0
 
 pub length-bytes : (w v : ℕ) → length (bytes w v) ≡ w
 length-bytes zero v = refl
@@ -147,11 +146,6 @@ bytes-be (suc (suc w)) l b i h =
     (ap (bytes (suc w)) (high (be (suc w) l i) x (b (i + suc w))) ∙ bytes-be (suc w) l b i (omega arith))
     (low (be (suc w) l i) x (b (i + suc w)) ∙ sym (getD-drop i l (suc w) 0))
     ∙ sym (take-suc (drop i l) (suc w) 0 n)
-
-pub be-small : (w : ℕ) (l : List ℕ) → Bytes l → (i : ℕ) → be (suc w) l i / 256 ≡ be w l i
-unfolding be
-be-small zero l b i = omega (arith, b i)
-be-small (suc w) l b i = high (be (suc w) l i) (getD l (i + suc w) 0) (b (i + suc w))
 
 -- two bytes whose low byte is not that of n do not make n
 pub low-differs : (l : List ℕ) (i n b : ℕ) → b ≡ be 1 l (i + 1) → b < 256 → (b ≡ n % 256 → ⊥) → false ≡ eqb (be 2 l i) n

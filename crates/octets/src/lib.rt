@@ -2,7 +2,7 @@
 ghost use mathlib.Core.Path.{_≡_};
 ghost use Prim.Native.Nat.{_+_, _<_, _≤_};
 ghost use lib.Dec.{eqb};
-ghost use lib.ListN.{length};
+ghost use lib.ListN.{length, set};
 ghost use Rattle.octets.specs.Octets.{be8, be16, be32, bytes, put, zeros};
 
 fn wide16(x: u8) -> u16
@@ -52,12 +52,20 @@ pub fn is16(s: &[u8], i: usize, n: u16) -> bool
     read16(s, i) == n
 }
 
+// The one store of this crate, by which every byte of an image is written.
+fn store(s: &mut [u8], i: usize, b: u8)
+    requires { ⌜ i < length (now s) ⌝ }
+    ensures { λ _. ⌜ now (s .exit) ≡ set (now (s .entry)) i b ⌝ }
+{
+    s[i] = b;
+}
+
 // v as one byte at i, every other byte kept.
 pub fn write8(s: &mut [u8], i: usize, v: u8)
     requires { ⌜ i < length (now s) ⌝ }
     ensures { λ _. ⌜ now (s .exit) ≡ put (now (s .entry)) i (bytes 1 v) ⌝ }
 {
-    s[i] = v;
+    store(s, i, v);
 }
 
 // v as two bytes from i on, every other byte kept.
@@ -65,8 +73,8 @@ pub fn write16(s: &mut [u8], i: usize, v: u16)
     requires { ⌜ i + 2 ≤ length (now s) ⌝ }
     ensures { λ _. ⌜ now (s .exit) ≡ put (now (s .entry)) i (bytes 2 v) ⌝ }
 {
-    s[i] = (v / 256) as u8;
-    s[i + 1] = (v % 256) as u8;
+    store(s, i, (v / 256) as u8);
+    store(s, i + 1, (v % 256) as u8);
 }
 
 // v as four bytes from i on, every other byte kept.
@@ -74,10 +82,10 @@ pub fn write32(s: &mut [u8], i: usize, v: u32)
     requires { ⌜ i + 4 ≤ length (now s) ⌝ }
     ensures { λ _. ⌜ now (s .exit) ≡ put (now (s .entry)) i (bytes 4 v) ⌝ }
 {
-    s[i] = (v / 256 / 256 / 256) as u8;
-    s[i + 1] = (v / 256 / 256 % 256) as u8;
-    s[i + 2] = (v / 256 % 256) as u8;
-    s[i + 3] = (v % 256) as u8;
+    store(s, i, (v / 256 / 256 / 256) as u8);
+    store(s, i + 1, (v / 256 / 256 % 256) as u8);
+    store(s, i + 2, (v / 256 % 256) as u8);
+    store(s, i + 3, (v % 256) as u8);
 }
 
 // Zeros in the n bytes from i on, every other byte kept.
@@ -87,7 +95,7 @@ pub fn clear(s: &mut [u8], i: usize, n: usize)
 {
     let mut k = 0;
     while k < n {
-        s[i + k] = 0;
+        store(s, i + k, 0);
         k += 1;
     }
 }

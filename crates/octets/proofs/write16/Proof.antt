@@ -1,41 +1,45 @@
-use lib.ListN.{length-set}
-use native.Mathlib.Numerals.{towards-suc}
-use Rattle.octets.proofs.Laws.{sets-put}
+use mathlib.Core.Path.{sym}
+use Rattle.octets.proofs.Laws.{put-none, put-next}
 use native.Mathlib.Omega.{arith}
 use borrow.Author.Needs.{needs}
 use Rattle.octets.proofs.write16.Statement.{statement}
 use Rattle.octets.proofs.write16.Tie as tie
 use Rattle.octets.proofs.write16.Reads as reads
 use Rattle.octets.proofs.write16.Lts as lts
+use Rattle.octets.proofs.store.Reads as store-reads
 
--- src/lib.rt:56:12
-cast-s : tie.Need-cast-s
-cast-s c = search needs
+cast-store : tie.Need-cast-store
+cast-store c = search needs
 
--- src/lib.rt:56:5
-slice-write-s : tie.Need-slice-write-s
-slice-write-s c = search needs
+store-requires : tie.Need-store-requires
+store-requires c κs = search needs
 
--- src/lib.rt:57:16
-cast-s-2 : tie.Need-cast-s-2
-cast-s-2 c = search needs
+add-store : tie.Need-add-store
+add-store c = search needs
 
--- src/lib.rt:57:7
-add-s : tie.Need-add-s
-add-s c = search needs
+cast-store-2 : tie.Need-cast-store-2
+cast-store-2 c = search needs
 
--- src/lib.rt:57:5
-slice-write-s-2 : tie.Need-slice-write-s-2
-slice-write-s-2 c = simp length-set (omega arith)
+store-requires-2 : tie.Need-store-requires-2
+store-requires-2 c κs = search needs
 
--- src/lib.rt:52:1
 same-length : tie.Need-same-length
 same-length c = search needs
 
--- src/lib.rt:52:1
 returns : tie.Need-returns
-returns c = simp towards-suc (sets-put (c .args .s .now) (c .args .i) _ (omega arith))
+returns c =
+    let w2 = c .before .before in
+    let w1 = w2 .before .before .before .before in
+    put-next _ _ _ _ (put-next _ _ _ _ (sym (put-none _ _)) (w1 .store .ensures) (omega arith) (omega arith)) (w2 .store2 .ensures) (omega arith) (omega arith)
 
 pub write16-spec : {M : Type 1} → statement M
 write16-spec =
-    tie.close (tie.spec cast-s slice-write-s cast-s-2 add-s slice-write-s-2 same-length returns)
+    tie.close
+    (tie.spec
+    cast-store
+    store-requires
+    add-store
+    cast-store-2
+    store-requires-2
+    same-length
+    returns)
