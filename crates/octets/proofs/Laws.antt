@@ -8,7 +8,8 @@ use native.Mathlib.Numerals.{add-one}
 use native.Mathlib.Omega.{arith}
 use borrow.Author.Tests.{ne-eqb}
 use lib.Dec.{eqb}
-use lib.ListN.{length, getD, take, drop, set, replicate, length-append, length-drop, length-replicate, List·getD-append, take-append-drop, replicate-append-replicate}
+use lib.ListN.{length, getD, take, drop, set, replicate, length-append, length-drop, length-replicate, List·getD-append, take-append-drop}
+use lib.ListN.{replicate-append-replicate}
 use lib.Seq.{sets, sets-eq, getD-append-add, getD-drop, getD-take, length-take-le, set-at, drop-cons, take-suc}
 use Rattle.octets.specs.Octets.{be, bytes, put, zeros}
 
@@ -114,7 +115,8 @@ pub be-put-same : (w : ℕ) (l : List ℕ) (i v : ℕ) → i + suc w ≤ length 
 be-put-same w l i v h =
     let n = length-bytes (suc w) v in
     be-same (suc w) (put l i (bytes (suc w) v)) (bytes (suc w) v ++ []) i 0
-    (λ k hk. getD-put-in l i (bytes (suc w) v) k (omega arith) (omega arith) ∙ ap₂ (λ (x : List ℕ) (m : ℕ). getD x m 0) (sym (append-nil (bytes (suc w) v))) (sym (zero-add k)))
+    (λ k hk. getD-put-in l i (bytes (suc w) v) k (omega arith) (omega arith)
+    ∙ ap₂ (λ (x : List ℕ) (m : ℕ). getD x m 0) (sym (append-nil (bytes (suc w) v))) (sym (zero-add k)))
     ∙ be-bytes w v []
 
 pub be-put-before : (w : ℕ) (l : List ℕ) (i j : ℕ) (vs : List ℕ) → j + length vs ≤ length l → i + w ≤ j → be w (put l j vs) i ≡ be w l i

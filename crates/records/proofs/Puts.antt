@@ -41,7 +41,8 @@ pub data Written (i : ℕ) : ℕ → List ℕ → List (List ℕ) → List ℕ �
   done : {k : ℕ} {l : List ℕ} → Written i k l [] l
   more : {k : ℕ} {l s t v : List ℕ} {vs : List (List ℕ)} → s ≡ put l (i + k) v → Written i (k + length v) s vs t → Written i k l (v ∷ vs) t
 
-pub written-from : {i k : ℕ} {l t : List ℕ} {vs : List (List ℕ)} → Written i k l vs t → i + k + length (joined (λ v. v) vs) ≤ length l → t ≡ put l (i + k) (joined (λ v. v) vs)
+pub written-from : {i k : ℕ} {l t : List ℕ} {vs : List (List ℕ)} → Written i k l vs t → i + k + length (joined (λ v. v) vs) ≤ length l
+    → t ≡ put l (i + k) (joined (λ v. v) vs)
 written-from {i} {k} {l} done h = sym (put-none l (i + k))
 written-from {i} {k} {l} (more {v = v} {vs = vs} e w) h =
     let rest = joined (λ (u : List ℕ). u) vs in

@@ -14,7 +14,8 @@ use Rattle.records.specs.declared.Executable.{Executable}
 use Rattle.records.specs.declared.Row.{Row}
 use Rattle.records.specs.declared.Event.{Event}
 use Rattle.records.specs.Sizes.{certificate-size, card-size, executable-size, row-size, event-size}
-use Rattle.records.specs.Layout.{certificate-read, certificate-bytes, card-read, card-bytes, executable-read, executable-bytes, row-read, row-bytes, row-byte, event-read, event-bytes}
+use Rattle.records.specs.Layout.{certificate-read, certificate-bytes, card-read, card-bytes, executable-read, executable-bytes, row-read}
+use Rattle.records.specs.Layout.{row-bytes, row-byte, event-read, event-bytes}
 use Rattle.records.proofs.Joined.{cells}
 
 -- ---- widths

@@ -10,11 +10,17 @@ use Rattle.octets.specs.Octets.{be, bytes}
 use Rattle.octets.proofs.Laws.{Bytes}
 use Rattle.records.specs.Sizes.{header-size, certificate-size, card-size, executable-size, row-size, certificates-start, image-end, largest-image}
 use Rattle.records.specs.Layout.{certificate-read, certificate-bytes, card-read, card-bytes, executable-read, executable-bytes, row-read, row-bytes}
-use Rattle.records.specs.Phone.{Phone, joined, header-of, header-bytes, encode, decode, version, certificate-slots, card-count, executable-slots, action-count, standing-mode, card-present, header-zero, clock-time, certificates-at, cards-at, executables-at, table-at, total-length, cards-from, executables-from, table-from, ends-at, no-certificate, no-card, no-executable, no-row}
+use Rattle.records.specs.Phone.{Phone, joined, header-of, header-bytes, encode, decode, version, certificate-slots, card-count}
+use Rattle.records.specs.Phone.{executable-slots, action-count, standing-mode, card-present, header-zero, clock-time, certificates-at}
+use Rattle.records.specs.Phone.{cards-at, executables-at, table-at, total-length, cards-from, executables-from, table-from, ends-at}
+use Rattle.records.specs.Phone.{no-certificate, no-card, no-executable, no-row}
 use Rattle.records.specs.Frame.{framed, Sized, Framed}
 use Rattle.records.proofs.Joined.{length-joined, tabulate-of, joined-tabulate, cells}
 use Rattle.records.proofs.Records.{length-row, upper, lower, certificate-part, card-part, executable-part, row-part}
-use Rattle.records.proofs.Parts.{before-table, length-before-table, part-table, certificate-slots-encode, card-count-encode, executable-slots-encode, action-count-encode, standing-mode-encode, card-present-encode, clock-time-encode, cards-at-encode, executables-at-encode, table-at-encode, certificate-encode, card-encode, executable-encode, row-encode}
+use Rattle.records.proofs.Parts.{before-table, length-before-table, part-table, certificate-slots-encode, card-count-encode}
+use Rattle.records.proofs.Parts.{executable-slots-encode, action-count-encode, standing-mode-encode, card-present-encode}
+use Rattle.records.proofs.Parts.{clock-time-encode, cards-at-encode, executables-at-encode, table-at-encode, certificate-encode}
+use Rattle.records.proofs.Parts.{card-encode, executable-encode, row-encode}
 use Rattle.records.proofs.Said.{length-certificates, length-cards, length-executables, length-table}
 use Rattle.records.proofs.Fields.{Fields, fields}
 
@@ -23,15 +29,17 @@ use Rattle.records.proofs.Fields.{Fields, fields}
 pub decode-encode : (p : Phone) → decode (encode p) ≡ p
 unfolding decode
 decode-encode p =
-    rw (certificate-slots-encode p, card-count-encode p, executable-slots-encode p, action-count-encode p, standing-mode-encode p, card-present-encode p, clock-time-encode p)
+    rw (certificate-slots-encode p, card-count-encode p, executable-slots-encode p, action-count-encode p)
+    (rw (standing-mode-encode p, card-present-encode p, clock-time-encode p)
     (simp (
       tabulate-of no-certificate (p .trust .certificates) _ (certificate-encode p),
       tabulate-of no-card (p .cards) _ (card-encode p),
       tabulate-of no-executable (p .executables) _ (executable-encode p),
       tabulate-of no-row (p .table) _ (row-encode p),
-    ))
+    )))
 
-pub length-encode : (p : Phone) → length (encode p) ≡ image-end (length (p .trust .certificates)) (length (p .cards)) (length (p .executables)) (length (p .table))
+pub length-encode : (p : Phone)
+    → length (encode p) ≡ image-end (length (p .trust .certificates)) (length (p .cards)) (length (p .executables)) (length (p .table))
 length-encode p =
     ap length (part-table p) ∙ length-append (before-table p) (joined row-bytes (p .table) ++ [])
     ∙ ap₂ _+_ (length-before-table p) (ap length (append-nil (joined row-bytes (p .table))) ∙ length-joined row-bytes row-size length-row (p .table))
@@ -61,7 +69,10 @@ numbers v n m k a mode card z clock o₁ o₂ o₃ o₄ o₅ =
     ++ (bytes 4 clock ++ (bytes 4 o₁ ++ (bytes 4 o₂ ++ (bytes 4 o₃ ++ (bytes 4 o₄ ++ bytes 4 o₅))))))))))))
 
 module _ (l : List ℕ) (b : Bytes l) (f : Fields l) where
-  numbers-part : numbers (version l) (certificate-slots l) (card-count l) (executable-slots l) (action-count l) (standing-mode l) (card-present l) (header-zero l) (clock-time l) (certificates-at l) (cards-at l) (executables-at l) (table-at l) (total-length l) ≡ take header-size l
+  numbers-part : numbers (version l) (certificate-slots l) (card-count l) (executable-slots l) (action-count l)
+      (standing-mode l) (card-present l) (header-zero l) (clock-time l)
+      (certificates-at l) (cards-at l) (executables-at l) (table-at l) (total-length l)
+      ≡ take header-size l
   unfolding numbers be
   numbers-part =
       let h : 0 + header-size ≤ length l = omega arith in
@@ -76,7 +87,8 @@ module _ (l : List ℕ) (b : Bytes l) (f : Fields l) where
   certificates-part : joined certificate-bytes (decode l .trust .certificates) ≡ take (certificate-slots l * certificate-size) (drop certificates-start l)
   unfolding decode
   certificates-part =
-      joined-tabulate certificate-bytes certificate-size certificate-read l (certificate-part l b) (certificate-slots l) certificates-start (omega arith) _ (λ i. refl)
+      joined-tabulate certificate-bytes certificate-size certificate-read l (certificate-part l b)
+      (certificate-slots l) certificates-start (omega arith) _ (λ i. refl)
 
   cards-part : joined card-bytes (decode l .cards) ≡ take (card-count l * card-size) (drop (cards-from l) l)
   unfolding decode
@@ -86,7 +98,8 @@ module _ (l : List ℕ) (b : Bytes l) (f : Fields l) where
   executables-part : joined executable-bytes (decode l .executables) ≡ take (executable-slots l * executable-size) (drop (executables-from l) l)
   unfolding decode
   executables-part =
-      joined-tabulate executable-bytes executable-size executable-read l (executable-part l b) (executable-slots l) (executables-from l) (omega arith) _ (λ i. refl)
+      joined-tabulate executable-bytes executable-size executable-read l (executable-part l b)
+      (executable-slots l) (executables-from l) (omega arith) _ (λ i. refl)
 
   table-part : joined row-bytes (decode l .table) ≡ take (action-count l * row-size) (drop (table-from l) l)
   unfolding decode

@@ -7,7 +7,9 @@ use lib.ListN.{length}
 use Rattle.octets.specs.Octets.{be8}
 use Rattle.records.specs.Sizes.{certificate-size, card-size, executable-size, row-size, certificates-start}
 use Rattle.records.specs.Layout.{certificate-read, card-read, executable-read, row-read, row-byte}
-use Rattle.records.specs.Phone.{decode, certificate-slots, card-count, executable-slots, action-count, cards-at, executables-at, table-at, cards-from, executables-from, table-from, no-certificate, no-card, no-executable, no-row, certificate-at, card-at, executable-at, row-at}
+use Rattle.records.specs.Phone.{decode, certificate-slots, card-count, executable-slots, action-count, cards-at, executables-at, table-at}
+use Rattle.records.specs.Phone.{cards-from, executables-from, table-from, no-certificate, no-card, no-executable, no-row, certificate-at}
+use Rattle.records.specs.Phone.{card-at, executable-at, row-at}
 use Rattle.records.specs.Frame.{Framed}
 use Rattle.records.proofs.Joined.{length-tabulate, getD-tabulate}
 use Rattle.records.proofs.Records.{row-byte-read}
@@ -33,7 +35,8 @@ module _ (l : List ℕ) where
 
 -- ---- each of them; x is where the records start, as the header has it
 
-pub certificate-said : (l : List ℕ) (i : ℕ) → i < length (decode l .trust .certificates) → certificate-read l (certificates-start + i * certificate-size) ≡ certificate-at (decode l) i
+pub certificate-said : (l : List ℕ) (i : ℕ) → i < length (decode l .trust .certificates)
+    → certificate-read l (certificates-start + i * certificate-size) ≡ certificate-at (decode l) i
 unfolding decode
 certificate-said l i h = sym (getD-tabulate _ _ no-certificate i (rw (length-certificates l) at h))
 
@@ -45,7 +48,8 @@ module _ (l : List ℕ) (f : Framed l) where
       ap (λ (n : ℕ). card-read l (n + i * card-size)) e′
       ∙ sym (getD-tabulate _ _ no-card i (rw (length-cards l) at h))
 
-  pub executable-said : (x i : ℕ) → x ≡ executables-at l → i < length (decode l .executables) → executable-read l (x + i * executable-size) ≡ executable-at (decode l) i
+  pub executable-said : (x i : ℕ) → x ≡ executables-at l → i < length (decode l .executables)
+      → executable-read l (x + i * executable-size) ≡ executable-at (decode l) i
   unfolding decode
   executable-said x i e h =
       let e′ : x ≡ executables-from l = omega arith in
@@ -59,5 +63,6 @@ module _ (l : List ℕ) (f : Framed l) where
       ap (λ (n : ℕ). row-read l (n + i * row-size)) e′
       ∙ sym (getD-tabulate _ _ no-row i (rw (length-table l) at h))
 
-  pub table-byte-said : (x i d : ℕ) → x ≡ table-at l → i < length (decode l .table) → d < row-size → be8 l (x + i * row-size + d) ≡ row-byte (row-at (decode l) i) d
+  pub table-byte-said : (x i d : ℕ) → x ≡ table-at l → i < length (decode l .table) → d < row-size
+      → be8 l (x + i * row-size + d) ≡ row-byte (row-at (decode l) i) d
   table-byte-said x i d e h hd = sym (row-byte-read l (x + i * row-size) d hd) ∙ ap (λ r. row-byte r d) (row-said x i e h)

@@ -10,7 +10,9 @@ use Rattle.records.specs.declared.Certificate.{Certificate}
 use Rattle.records.specs.declared.Executable.{Executable}
 use Rattle.records.specs.Sizes.{certificate-size, executable-size, certificates-start, executables-start}
 use Rattle.records.specs.Layout.{certificate-bytes, card-bytes, executable-bytes, row-bytes}
-use Rattle.records.specs.Phone.{Phone, joined, header-of, header-bytes, encode, decode, executables-at, no-certificate, no-executable, certificate-at, executable-at, with-clock, with-card, with-mode, put-certificate, put-executable, marked, enabling, in-domain, permitted}
+use Rattle.records.specs.Phone.{Phone, joined, header-of, header-bytes, encode, decode, executables-at, no-certificate, no-executable}
+use Rattle.records.specs.Phone.{certificate-at, executable-at, with-clock, with-card, with-mode, put-certificate, put-executable, marked}
+use Rattle.records.specs.Phone.{enabling, in-domain, permitted}
 use Rattle.records.specs.Frame.{Framed}
 use Rattle.records.proofs.Joined.{put-joined}
 use Rattle.records.proofs.Records.{length-certificate, length-executable}
@@ -19,7 +21,8 @@ use Rattle.records.proofs.Parts.{length-header, before-cards, before-ex
 -- ---- bytes put within a record of a phone's image
 
 module _ (p : Phone) (i k : ℕ) (vs : List ℕ) where
-  in-certificate : (c : Certificate) → i < length (p .trust .certificates) → k + length vs ≤ certificate-size → put (certificate-bytes (certificate-at p i)) k vs ≡ certificate-bytes c
+  in-certificate : (c : Certificate) → i < length (p .trust .certificates) → k + length vs ≤ certificate-size
+      → put (certificate-bytes (certificate-at p i)) k vs ≡ certificate-bytes c
       → put (encode p) (certificates-start + i * certificate-size + k) vs ≡ encode (put-certificate i c p)
   unfolding encode
   in-certificate c h hk e =
@@ -28,12 +31,14 @@ module _ (p : Phone) (i k : ℕ) (vs : List ℕ) where
       ∙ put-joined certificate-bytes certificate-size length-certificate (header-bytes p) (p .trust .certificates) i h rest k vs no-certificate c hk e
       ∙ rw length-set
 
-  in-executable : (x : Executable) → i < length (p .executables) → k + length vs ≤ executable-size → put (executable-bytes (executable-at p i)) k vs ≡ executable-bytes x
+  in-executable : (x : Executable) → i < length (p .executables) → k + length vs ≤ executable-size
+      → put (executable-bytes (executable-at p i)) k vs ≡ executable-bytes x
       → put (encode p) (executables-start (length (p .trust .certificates)) (length (p .cards)) + i * executable-size + k) vs ≡ encode (put-executable i x p)
   unfolding before-executables before-cards
   in-executable x h hk e =
       ap₂ (λ (l : List ℕ) (n : ℕ). put l (n + i * executable-size + k) vs) (part-executables p) (sym (length-before-executables p))
-      ∙ put-joined executable-bytes executable-size length-executable (before-executables p) (p .executables) i h (joined row-bytes (p .table)) k vs no-executable x hk e
+      ∙ put-joined executable-bytes executable-size length-executable (before-executables p) (p .executables) i h
+      (joined row-bytes (p .table)) k vs no-executable x hk e
       ∙ sym (part-executables (put-executable i x p) ∙ rw length-set)
 
 -- ---- what is put in a framed image
@@ -55,19 +60,25 @@ module _ (l : List ℕ) (f : Framed l) where
     abbrev old-certificate : Certificate
     old-certificate = certificate-at (decode l) i
 
-    certificate-changed : (k : ℕ) (vs : List ℕ) (c : Certificate) → k + length vs ≤ certificate-size → put (certificate-bytes old-certificate) k vs ≡ certificate-bytes c
+    certificate-changed : (k : ℕ) (vs : List ℕ) (c : Certificate) → k + length vs ≤ certificate-size
+        → put (certificate-bytes old-certificate) k vs ≡ certificate-bytes c
         → put l (certificates-start + i * certificate-size + k) vs ≡ encode (put-certificate i c (decode l))
-    certificate-changed k vs c hk e = ap (λ (s : List ℕ). put s (certificates-start + i * certificate-size + k) vs) (f .shaped) ∙ in-certificate (decode l) i k vs c h hk e
+    certificate-changed k vs c hk e =
+        ap (λ (s : List ℕ). put s (certificates-start + i * certificate-size + k) vs) (f .shaped)
+        ∙ in-certificate (decode l) i k vs c h hk e
 
-    pub mark-written : (m : ℕ) → put l (certificates-start + i * certificate-size + 6) (bytes 1 m) ≡ encode (put-certificate i (marked m old-certificate) (decode l))
+    pub mark-written : (m : ℕ)
+        → put l (certificates-start + i * certificate-size + 6) (bytes 1 m) ≡ encode (put-certificate i (marked m old-certificate) (decode l))
     unfolding put
     mark-written m = certificate-changed 6 (bytes 1 m) (marked m old-certificate) (lit≤ tt) refl
 
-    pub enabled-written : (m : ℕ) → put l (certificates-start + i * certificate-size + 7) (bytes 1 m) ≡ encode (put-certificate i (enabling m old-certificate) (decode l))
+    pub enabled-written : (m : ℕ)
+        → put l (certificates-start + i * certificate-size + 7) (bytes 1 m) ≡ encode (put-certificate i (enabling m old-certificate) (decode l))
     unfolding put
     enabled-written m = certificate-changed 7 (bytes 1 m) (enabling m old-certificate) (lit≤ tt) refl
 
-    pub certificate-written : (c : Certificate) → put l (certificates-start + i * certificate-size) (certificate-bytes c) ≡ encode (put-certificate i c (decode l))
+    pub certificate-written : (c : Certificate)
+        → put l (certificates-start + i * certificate-size) (certificate-bytes c) ≡ encode (put-certificate i c (decode l))
     unfolding put
     certificate-written c =
         ap (λ (n : ℕ). put l n (certificate-bytes c)) (sym (add-zero (certificates-start + i * certificate-size)))
@@ -81,9 +92,12 @@ module _ (l : List ℕ) (f : Framed l) where
     abbrev old-executable : Executable
     old-executable = executable-at (decode l) i
 
-    executable-changed : (k : ℕ) (vs : List ℕ) (y : Executable) → k + length vs ≤ executable-size → put (executable-bytes old-executable) k vs ≡ executable-bytes y
+    executable-changed : (k : ℕ) (vs : List ℕ) (y : Executable) → k + length vs ≤ executable-size
+        → put (executable-bytes old-executable) k vs ≡ executable-bytes y
         → put l (x + i * executable-size + k) vs ≡ encode (put-executable i y (decode l))
-    executable-changed k vs y hk e = ap₂ (λ (s : List ℕ) (n : ℕ). put s (n + i * executable-size + k) vs) (f .shaped) (at ∙ f .executables-from) ∙ in-executable (decode l) i k vs y h hk e
+    executable-changed k vs y hk e =
+        ap₂ (λ (s : List ℕ) (n : ℕ). put s (n + i * executable-size + k) vs) (f .shaped) (at ∙ f .executables-from)
+        ∙ in-executable (decode l) i k vs y h hk e
 
     pub domain-written : (d : ℕ) → put l (x + i * executable-size + 2) (bytes 1 d) ≡ encode (put-executable i (in-domain d old-executable) (decode l))
     unfolding put

@@ -7,7 +7,8 @@ use lib.ListN.{length}
 use native.Mathlib.Omega.{arith}
 use borrow.Author.Tests.{eq-eqb, ne-eqb, le-leb, lt-leb}
 use Rattle.records.specs.Sizes.{header-size, image-version, most-certificates, most-cards, most-executables, most-actions, certificates-start}
-use Rattle.records.specs.Phone.{version, certificate-slots, card-count, executable-slots, action-count, standing-mode, header-zero, certificates-at, cards-at, executables-at, table-at, cards-from, executables-from, table-from}
+use Rattle.records.specs.Phone.{version, certificate-slots, card-count, executable-slots, action-count, standing-mode, header-zero}
+use Rattle.records.specs.Phone.{certificates-at, cards-at, executables-at, table-at, cards-from, executables-from, table-from}
 use Rattle.records.specs.Frame.{part-fields, setting-fields, total-byte, first-wrong, header-fault}
 
 module _ (l : List ℕ) where

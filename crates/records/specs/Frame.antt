@@ -114,7 +114,8 @@ pub record Sized (p : Phone) : Type 0 where
 pub record Framed (l : List ℕ) : Type 0 where
   pub shaped : l ≡ encode (decode l)
   pub sized : Sized (decode l)
-  pub room : length l ≡ image-end (length (decode l .trust .certificates)) (length (decode l .cards)) (length (decode l .executables)) (length (decode l .table))
+  pub room : length l
+      ≡ image-end (length (decode l .trust .certificates)) (length (decode l .cards)) (length (decode l .executables)) (length (decode l .table))
   pub certificates : certificate-slots l ≡ length (decode l .trust .certificates)
   pub cards : card-count l ≡ length (decode l .cards)
   pub executables : executable-slots l ≡ length (decode l .executables)

@@ -12,7 +12,18 @@ use Rattle.records.specs.declared.Event.{Event}
 -- "u16 id, u16 place, u8 kind, u8 domain, u8 mark and u8 enabled, u32 key, verifying key, owner, expiry": the certificate whose first byte is at a
 abbrev pub certificate-read : List ℕ → ℕ → Certificate
 certificate-read l a =
-    record { id = be16 l (a + 0); place = be16 l (a + 2); kind = be8 l (a + 4); domain = be8 l (a + 5); mark = be8 l (a + 6); enabled = be8 l (a + 7); key = be32 l (a + 8); verifying = be32 l (a + 12); owner = be32 l (a + 16); expiry = be32 l (a + 20) }
+    record {
+      id = be16 l (a + 0);
+      place = be16 l (a + 2);
+      kind = be8 l (a + 4);
+      domain = be8 l (a + 5);
+      mark = be8 l (a + 6);
+      enabled = be8 l (a + 7);
+      key = be32 l (a + 8);
+      verifying = be32 l (a + 12);
+      owner = be32 l (a + 16);
+      expiry = be32 l (a + 20);
+    }
 
 -- its small fields, which take the first 8 bytes, and then its words
 abbrev pub certificate-small : Certificate → List ℕ
@@ -56,8 +67,20 @@ row-byte r d = getD (row-bytes r) d 0
 -- "u8 kind, u8 actor, u16 id, u16 second, u8 third, u8 fourth, then four u32 (key, verifying key, owner, expiry)"
 abbrev pub event-read : List ℕ → ℕ → Event
 event-read l a =
-    record { kind = be8 l (a + 0); actor = be8 l (a + 1); id = be16 l (a + 2); second = be16 l (a + 4); third = be8 l (a + 6); fourth = be8 l (a + 7); key = be32 l (a + 8); verifying = be32 l (a + 12); owner = be32 l (a + 16); expiry = be32 l (a + 20) }
+    record {
+      kind = be8 l (a + 0);
+      actor = be8 l (a + 1);
+      id = be16 l (a + 2);
+      second = be16 l (a + 4);
+      third = be8 l (a + 6);
+      fourth = be8 l (a + 7);
+      key = be32 l (a + 8);
+      verifying = be32 l (a + 12);
+      owner = be32 l (a + 16);
+      expiry = be32 l (a + 20);
+    }
 
 abbrev pub event-bytes : Event → List ℕ
 event-bytes e =
-    bytes 1 (e .kind) ++ (bytes 1 (e .actor) ++ (bytes 2 (e .id) ++ (bytes 2 (e .second) ++ (bytes 1 (e .third) ++ (bytes 1 (e .fourth) ++ (bytes 4 (e .key) ++ (bytes 4 (e .verifying) ++ (bytes 4 (e .owner) ++ bytes 4 (e .expiry)))))))))
+    bytes 1 (e .kind) ++ (bytes 1 (e .actor) ++ (bytes 2 (e .id) ++ (bytes 2 (e .second) ++ (bytes 1 (e .third) ++ (bytes 1 (e .fourth)
+    ++ (bytes 4 (e .key) ++ (bytes 4 (e .verifying) ++ (bytes 4 (e .owner) ++ bytes 4 (e .expiry)))))))))

@@ -166,17 +166,20 @@ joined enc (a ∷ l) = enc a ++ joined enc l
 unfoldable pub header-of : ℕ → ℕ → ℕ → ℕ → ℕ → ℕ → ℕ → List ℕ
 header-of n m k a mode card clock =
     bytes 2 image-version ++ (bytes 2 n ++ (bytes 2 m ++ (bytes 2 k ++ (bytes 2 a ++ (bytes 2 mode ++ (bytes 2 card ++ (bytes 2 0
-    ++ (bytes 4 clock ++ (bytes 4 certificates-start ++ (bytes 4 (cards-start n) ++ (bytes 4 (executables-start n m) ++ (bytes 4 (table-start n m k) ++ bytes 4 (image-end n m k a)))))))))))))
+    ++ (bytes 4 clock ++ (bytes 4 certificates-start ++ (bytes 4 (cards-start n) ++ (bytes 4 (executables-start n m)
+    ++ (bytes 4 (table-start n m k) ++ bytes 4 (image-end n m k a)))))))))))))
 
 abbrev pub header-bytes : Phone → List ℕ
 header-bytes p =
-    header-of (length (p .trust .certificates)) (length (p .cards)) (length (p .executables)) (length (p .table)) (p .mode) (p .trust .seen .card) (p .trust .seen .clock)
+    header-of (length (p .trust .certificates)) (length (p .cards)) (length (p .executables)) (length (p .table))
+    (p .mode) (p .trust .seen .card) (p .trust .seen .clock)
 
 -- the image of a phone
 unfoldable pub encode : Phone → List ℕ
 encode p =
     header-bytes p
-    ++ (joined certificate-bytes (p .trust .certificates) ++ (joined card-bytes (p .cards) ++ (joined executable-bytes (p .executables) ++ joined row-bytes (p .table))))
+    ++ (joined certificate-bytes (p .trust .certificates) ++ (joined card-bytes (p .cards)
+    ++ (joined executable-bytes (p .executables) ++ joined row-bytes (p .table))))
 
 -- ---- one thing of a phone
 
@@ -251,11 +254,33 @@ put-executable i x p = with-executables (set (p .executables) i x) p
 
 abbrev pub marked : ℕ → Certificate → Certificate
 marked m c =
-    record { id = c .id; place = c .place; kind = c .kind; domain = c .domain; mark = m; enabled = c .enabled; key = c .key; verifying = c .verifying; owner = c .owner; expiry = c .expiry }
+    record {
+      id = c .id;
+      place = c .place;
+      kind = c .kind;
+      domain = c .domain;
+      mark = m;
+      enabled = c .enabled;
+      key = c .key;
+      verifying = c .verifying;
+      owner = c .owner;
+      expiry = c .expiry;
+    }
 
 abbrev pub enabling : ℕ → Certificate → Certificate
 enabling m c =
-    record { id = c .id; place = c .place; kind = c .kind; domain = c .domain; mark = c .mark; enabled = m; key = c .key; verifying = c .verifying; owner = c .owner; expiry = c .expiry }
+    record {
+      id = c .id;
+      place = c .place;
+      kind = c .kind;
+      domain = c .domain;
+      mark = c .mark;
+      enabled = m;
+      key = c .key;
+      verifying = c .verifying;
+      owner = c .owner;
+      expiry = c .expiry;
+    }
 
 abbrev pub in-domain : ℕ → Executable → Executable
 in-domain d x = record { id = x .id; domain = d; blank = x .blank; signing = x .signing; permissions = x .permissions }

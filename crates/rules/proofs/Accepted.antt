@@ -40,7 +40,8 @@ Valid d clock c = T (valid-in d clock c)
 -- I5
 pub record Marks (cards : List Card) (seen : Seen) (l : List Certificate) : Type 0 where
   pub one-each : (c e : Certificate) → List·Memᴰ c l → List·Memᴰ e l → Valid 1 (seen .clock) c → Valid 1 (seen .clock) e → c .place ≡ e .place → c .id ≡ e .id
-  pub not-both : (c e : Certificate) → List·Memᴰ c l → List·Memᴰ e l → Valid 1 (seen .clock) c → Valid 1 (seen .clock) e → c .place ≡ 0 → e .place ≡ seen .card → seen .card ≡ 0
+  pub not-both : (c e : Certificate) → List·Memᴰ c l → List·Memᴰ e l → Valid 1 (seen .clock) c → Valid 1 (seen .clock) e → c .place ≡ 0
+      → e .place ≡ seen .card → seen .card ≡ 0
   pub mine : (c : Certificate) → List·Memᴰ c l → Valid 1 (seen .clock) c → c .place ≡ 0 → seen .card ≢ 0 → c .owner ≡ operator-of cards (seen .card)
   pub one-maker : (c e : Certificate) → List·Memᴰ c l → List·Memᴰ e l → Valid 2 (seen .clock) c → Valid 2 (seen .clock) e → c .id ≡ e .id
 

@@ -22,7 +22,9 @@ module _ {A : Type 0} (i : A → ℕ) where
   pub alone : (l : List A) → T (distinct (map i l)) → (e f : A) → List·Memᴰ e l → List·Memᴰ f l → i e ≢ 0 → i e ≡ i f → e ≡ f
   unfolding distinct
   alone [] h e f m n nz q = absurd (List·Memᴰ·not-nil m)
-  alone (x ∷ l) h e f m n nz q = go (alone l (and-r (eqb (i x) 0 || not (any (eqb (i x)) (map i l))) (distinct (map i l)) h) e f) (List·Memᴰ·cases-cons m) (List·Memᴰ·cases-cons n)
+  alone (x ∷ l) h e f m n nz q =
+      go (alone l (and-r (eqb (i x) 0 || not (any (eqb (i x)) (map i l))) (distinct (map i l)) h) e f)
+      (List·Memᴰ·cases-cons m) (List·Memᴰ·cases-cons n)
     where
       go : (List·Memᴰ e l → List·Memᴰ f l → i e ≢ 0 → i e ≡ i f → e ≡ f) → (e ≡ x) ⊎ List·Memᴰ e l → (f ≡ x) ⊎ List·Memᴰ f l → e ≡ f
       go r (inl a) (inl b) = a ∙ sym b
@@ -33,7 +35,11 @@ module _ {A : Type 0} (i : A → ℕ) where
   -- put together again: the head is 0 or not met
   cons-distinct : (x : A) (l : List A) → (i x ≢ 0 → (y : A) → List·Memᴰ y l → i x ≢ i y) → T (distinct (map i l)) → T (distinct (map i (x ∷ l)))
   unfolding distinct
-  cons-distinct x l h d = and-i (eqb (i x) 0 || not (any (eqb (i x)) (map i l))) (distinct (map i l)) (by-test (eqb (i x) 0) (λ t. search tests) (λ t. or-j (eqb (i x) 0) (not (any (eqb (i x)) (map i l))) (none-in (eqb (i x)) (map i l) (none (neqb→ne (i x) 0 t))))) d
+  cons-distinct x l h d =
+      and-i (eqb (i x) 0 || not (any (eqb (i x)) (map i l))) (distinct (map i l))
+      (by-test (eqb (i x) 0) (λ t. search tests)
+      (λ t. or-j (eqb (i x) 0) (not (any (eqb (i x)) (map i l))) (none-in (eqb (i x)) (map i l) (none (neqb→ne (i x) 0 t)))))
+      d
     where
       none : i x ≢ 0 → (n : ℕ) → List·Memᴰ n (map i l) → T (eqb (i x) n) → ⊥
       none nz n m t = let o = Memᴰ·of-map i l m in h nz (o .0) (o .1) (eqb→eq (i x) n t ∙ sym (o .2))

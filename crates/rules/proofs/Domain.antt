@@ -34,7 +34,8 @@ one-domain t apart k d f g h =
     let signed = chains-signed t k d g in
     let a = key-holder t (chains-key t k d g) in
     let b = key-holder t (chains-key t k f h) in
-    let e : a .certificate .domain ≡ b .certificate .domain = apart (a .certificate) (b .certificate) (a .mem) (b .mem) (λ z. signed (sym (a .key) ∙ z)) (a .key ∙ sym (b .key)) in
+    let e : a .certificate .domain ≡ b .certificate .domain =
+    apart (a .certificate) (b .certificate) (a .mem) (b .mem) (λ z. signed (sym (a .key) ∙ z)) (a .key ∙ sym (b .key)) in
     sym (a .domain) ∙ e ∙ b .domain
 
 -- the first of the three domains that a key chains to
@@ -47,7 +48,8 @@ which-cases P false true c f g h n = g tt
 which-cases P false false true f g h n = h tt
 which-cases P false false false f g h n = n tt tt tt
 
-domain-cases : (P : ℕ → Type 0) (t : Trust) (k : ℕ) → (T (chains-to t k 1) → P 1) → (T (chains-to t k 2) → P 2) → (T (chains-to t k 3) → P 3) → (T (not (chains-to t k 1)) → T (not (chains-to t k 2)) → T (not (chains-to t k 3)) → P 0) → P (chain-domain t k)
+domain-cases : (P : ℕ → Type 0) (t : Trust) (k : ℕ) → (T (chains-to t k 1) → P 1) → (T (chains-to t k 2) → P 2) → (T (chains-to t k 3) → P 3)
+    → (T (not (chains-to t k 1)) → T (not (chains-to t k 2)) → T (not (chains-to t k 3)) → P 0) → P (chain-domain t k)
 unfolding chain-domain first
 domain-cases P t k = which-cases P (chains-to t k 1) (chains-to t k 2) (chains-to t k 3)
 

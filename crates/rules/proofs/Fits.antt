@@ -10,7 +10,8 @@ use Rattle.records.specs.declared.Certificate.{Certificate}
 use Rattle.records.specs.declared.Card.{Card}
 use Rattle.records.specs.declared.Executable.{Executable}
 use Rattle.rules.specs.Words.{_implies_, all-zero}
-use Rattle.rules.specs.ImageRules.{free-certificate, free-executable, zero-certificate, certificate-ranges, root-fits, issued-fits, certificate-fits, zero-executable, executable-fits}
+use Rattle.rules.specs.ImageRules.{free-certificate, free-executable, zero-certificate, certificate-ranges, root-fits, issued-fits}
+use Rattle.rules.specs.ImageRules.{certificate-fits, zero-executable, executable-fits}
 use Rattle.rules.specs.ImageRules.{slot-fits, card-fits, program-fits}
 use Rattle.rules.proofs.Tests.{tests, eq→eqb, neqb→ne, ne→neqb, and-i, or-i, or-cases, by-test, cond-no, yes-cond, no-cond, implies-out, implies-in}
 use Rattle.rules.proofs.Accepted.{Occupied, Named, Stored}
@@ -57,7 +58,8 @@ root-in : (c : Certificate) → (c .verifying ≡ 0) × (c .domain ≡ 2 → c .
 unfolding root-fits
 root-in c o =
     let v : c .verifying ≡ 0 = o .0 in
-    let a : T (eqb (c .domain) 2 implies eqb (c .place) 0) = implies-in (eqb (c .domain) 2) (eqb (c .place) 0) (λ t. eq→eqb (c .place) 0 (o .1 (eqb→eq (c .domain) 2 t))) in
+    let a : T (eqb (c .domain) 2 implies eqb (c .place) 0) =
+    implies-in (eqb (c .domain) 2) (eqb (c .place) 0) (λ t. eq→eqb (c .place) 0 (o .1 (eqb→eq (c .domain) 2 t))) in
     let b : T (eqb (c .enabled) 1 || eqb (c .domain) 3) =
     by-test (eqb (c .domain) 3) (λ t. search tests)
     (λ t. or-i (eqb (c .enabled) 1) (eqb (c .domain) 3) (eq→eqb (c .enabled) 1 (o .2 (neqb→ne (c .domain) 3 t)))) in

@@ -48,7 +48,8 @@ none-within-zero t d k h =
     let g : T (serves (good zero t) d k (s .it)) = s .passes in
     search tests
 
-record-key : (t : Trust) (n d k : ℕ) → ((v : ℕ) → T (served n t d v) → Key t n d v) → (c : Certificate) → List·Memᴰ c (t .certificates) → T (serves (good (suc n) t) d k c) → Key t (suc n) d k
+record-key : (t : Trust) (n d k : ℕ) → ((v : ℕ) → T (served n t d v) → Key t n d v) → (c : Certificate) → List·Memᴰ c (t .certificates)
+    → T (serves (good (suc n) t) d k c) → Key t (suc n) d k
 unfolding serves good
 record-key t n d k below c m h = go (or-cases (trusted-root (t .seen) c) (link (t .seen) c && served n t (c .domain) (c .verifying)) (search tests))
   where

@@ -38,7 +38,8 @@ module _ (f : ℕ → Bool) where
   pub least-least : (n m : ℕ) → 1 ≤ m → m ≤ n → T (f m) → (least n f ≢ 0) × (least n f ≤ m)
   unfolding least
   least-least zero m lo hi h = absurd (omega arith)
-  least-least (suc n) m lo hi h = by-test (eqb m (suc n)) (λ t. here (eqb→eq m (suc n) t)) (λ t. below (least-least n m lo (omega (arith, neqb→ne m (suc n) t)) h))
+  least-least (suc n) m lo hi h =
+      by-test (eqb m (suc n)) (λ t. here (eqb→eq m (suc n) t)) (λ t. below (least-least n m lo (omega (arith, neqb→ne m (suc n) t)) h))
     where
       here : m ≡ suc n → (further n (f (suc n)) (least n f) ≢ 0) × (further n (f (suc n)) (least n f) ≤ m)
       here e =

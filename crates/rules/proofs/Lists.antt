@@ -32,7 +32,8 @@ unfolding any find
 find-in t d [] h = absurd h
 find-in {A} t d (x ∷ xs) h = go (t x) (λ k. k) h (find-in t d xs)
   where
-    go : (b : Bool) → (T b → T (t x)) → T (b || any t xs) → (T (any t xs) → List·Memᴰ (find t d xs) xs × T (t (find t d xs))) → List·Memᴰ (cond b x (find t d xs)) (x ∷ xs) × T (t (cond b x (find t d xs)))
+    go : (b : Bool) → (T b → T (t x)) → T (b || any t xs) → (T (any t xs) → List·Memᴰ (find t d xs) xs × T (t (find t d xs)))
+        → List·Memᴰ (cond b x (find t d xs)) (x ∷ xs) × T (t (cond b x (find t d xs)))
     go true k h r = (List·Memᴰ·head refl, k tt)
     go false k h r = let s = r h in (List·Memᴰ·tail (s .0), s .1)
 
@@ -65,7 +66,8 @@ unfolding fill
 fill-keeps t a [] y m n = m
 fill-keeps {A} t a (x ∷ xs) y m n = go (t x) (λ h. h) (fill-keeps t a xs y) (List·Memᴰ·cases-cons m)
   where
-    go : (b : Bool) → (T b → T (t x)) → (List·Memᴰ y xs → T (not (t y)) → List·Memᴰ y (fill t a xs)) → (y ≡ x) ⊎ List·Memᴰ y xs → List·Memᴰ y (cond b (a ∷ xs) (x ∷ fill t a xs))
+    go : (b : Bool) → (T b → T (t x)) → (List·Memᴰ y xs → T (not (t y)) → List·Memᴰ y (fill t a xs)) → (y ≡ x) ⊎ List·Memᴰ y xs
+        → List·Memᴰ y (cond b (a ∷ xs) (x ∷ fill t a xs))
     go true h r (inl e) = absurd (T-not (t y) n (subst (λ z. T (t z)) (sym e) (h tt)))
     go true h r (inr k) = List·Memᴰ·tail k
     go false h r (inl e) = List·Memᴰ·head e

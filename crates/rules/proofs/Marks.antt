@@ -15,14 +15,16 @@ use Rattle.rules.specs.Words.{at, change}
 use Rattle.rules.specs.ImageRules.{free-certificate, third-party-root}
 use Rattle.rules.specs.Forms.{new-certificate}
 use Rattle.rules.specs.Codes.{has-id, certificate-named}
-use Rattle.rules.specs.Effects.{phone-operator-root, retired, card-rule, tick, card-in, card-out, power-up, install-certificate, delete-certificate, on-a-card, after-marking, mark-valid, mark-invalid, enabled-by, message}
+use Rattle.rules.specs.Effects.{phone-operator-root, retired, card-rule, tick, card-in, card-out, power-up, install-certificate}
+use Rattle.rules.specs.Effects.{delete-certificate, on-a-card, after-marking, mark-valid, mark-invalid, enabled-by, message}
 use Rattle.rules.specs.Effects.{install-executable, delete-executable, verify, give, withdraw, request, effects, effect, settle, changed}
 use Rattle.rules.proofs.Tests.{by-test}
 use Rattle.rules.proofs.Accepts.{T-true}
 use Rattle.rules.proofs.Changes.{at-cases, map-at, change-at, fill-at}
 
 -- every certificate changed by f
-mapped : (p q : Phone) (f : Certificate → Certificate) → q .trust .certificates ≡ map f (p .trust .certificates) → ((c : Certificate) → f c .mark ≡ 1 → c .mark ≡ 1)
+mapped : (p q : Phone) (f : Certificate → Certificate) → q .trust .certificates ≡ map f (p .trust .certificates)
+    → ((c : Certificate) → f c .mark ≡ 1 → c .mark ≡ 1)
     → (i : ℕ) → certificate-at q i .mark ≡ 1 → certificate-at p i .mark ≡ 1
 mapped p q f e h i = rw e (map-at (λ c d. d .mark ≡ 1 → c .mark ≡ 1) f no-certificate (p .trust .certificates) (λ z. z) h i)
 

@@ -29,11 +29,13 @@ module _ {A : Type 0} (t : A → Bool) (d : A) (l : List A) (i : ℕ) where
   pub place-here : first-place t l ≡ i + first-place t (drop i l) → i < length l → t (getD l i d) ≡ true → i ≡ first-place t l
   place-here inv h e = omega (arith, here h e)
 
-  pub place-next : first-place t l ≡ i + first-place t (drop i l) → i < length l → t (getD l i d) ≡ false → first-place t l ≡ i + 1 + first-place t (drop (i + 1) l)
+  pub place-next : first-place t l ≡ i + first-place t (drop i l) → i < length l → t (getD l i d) ≡ false
+      → first-place t l ≡ i + 1 + first-place t (drop (i + 1) l)
   place-next inv h e = omega (arith, later h e)
 
   -- the same of slot j, which is the next
-  pub place-past : {j : ℕ} → i + 1 ≡ j → first-place t l ≡ i + first-place t (drop i l) → i < length l → t (getD l i d) ≡ false → first-place t l ≡ j + first-place t (drop j l)
+  pub place-past : {j : ℕ} → i + 1 ≡ j → first-place t l ≡ i + first-place t (drop i l) → i < length l → t (getD l i d) ≡ false
+      → first-place t l ≡ j + first-place t (drop j l)
   place-past e inv h f = subst (λ n. first-place t l ≡ n + first-place t (drop n l)) e (place-next inv h f)
 
   pub place-end : first-place t l ≡ i + first-place t (drop i l) → length l ≤ i → i ≡ first-place t l

@@ -86,7 +86,8 @@ chain-long : (t : Trust) (d : ℕ) {k : ℕ} {l : List Certificate} → Chain t 
 chain-long t d (ends r) = omega arith
 chain-long t d (goes-on s c) = omega arith
 
-chain-counted : (t : Trust) (k d : ℕ) (l : List Certificate) → k ≢ 0 → d ≢ 0 → Chain t d k l → length l ≤ most-links → (links t k d ≢ 0) × (links t k d ≤ length l)
+chain-counted : (t : Trust) (k d : ℕ) (l : List Certificate) → k ≢ 0 → d ≢ 0 → Chain t d k l → length l ≤ most-links
+    → (links t k d ≢ 0) × (links t k d ≤ length l)
 chain-counted t k d l signed trusted c h =
     links-least t k d (length l) trusted (chain-long t d c) h (chain-within t (length l) k d l signed c (omega arith))
 

@@ -27,21 +27,29 @@ module _ {A : Type 0} where
       go true h r = absurd h
       go false h r = ap (λ y. x ∷ y) r
 
-  pub set-is : (i : A → ℕ) (n : ℕ) (f : A → A) (d : A) (l : List A) (k : ℕ) → k < length l → i (getD l k d) ≡ n → n ≢ 0 → T (distinct (map i l)) → map (at (λ x. eqb (i x) n) f) l ≡ set l k (f (getD l k d))
+  pub set-is : (i : A → ℕ) (n : ℕ) (f : A → A) (d : A) (l : List A) (k : ℕ) → k < length l → i (getD l k d) ≡ n → n ≢ 0 → T (distinct (map i l))
+      → map (at (λ x. eqb (i x) n) f) l ≡ set l k (f (getD l k d))
   set-is i n f d [] k h e nz u = absurd (not-suc-le-zero h)
-  set-is i n f d (x ∷ l) zero h e nz u = go (eqb (i x) n) (eq→eqb (i x) n e) (set-miss (λ x. eqb (i x) n) f l (λ y m. ne→neqb (i y) n (λ q. head-alone i x l u y m (λ z. nz (sym e ∙ z)) (e ∙ sym q))))
+  set-is i n f d (x ∷ l) zero h e nz u =
+      go (eqb (i x) n) (eq→eqb (i x) n e)
+      (set-miss (λ x. eqb (i x) n) f l (λ y m. ne→neqb (i y) n (λ q. head-alone i x l u y m (λ z. nz (sym e ∙ z)) (e ∙ sym q))))
     where
       go : (b : Bool) → T b → map (at (λ x. eqb (i x) n) f) l ≡ l → _≡_ {A = List A} (cond b (f x) x ∷ map (at (λ x. eqb (i x) n) f) l) (f x ∷ l)
       go true h r = ap (λ y. f x ∷ y) r
       go false h r = absurd h
-  set-is i n f d (x ∷ l) (suc k) h e nz u = go (eqb (i x) n) (ne→neqb (i x) n (λ q. head-alone i x l u (getD l k d) (mem-at l k d (le-of-suc-le-suc h)) (λ z. nz (sym q ∙ z)) (q ∙ sym e))) (set-is i n f d l k (le-of-suc-le-suc h) e nz (tail-distinct i x l u))
+  set-is i n f d (x ∷ l) (suc k) h e nz u =
+      go (eqb (i x) n)
+      (ne→neqb (i x) n (λ q. head-alone i x l u (getD l k d) (mem-at l k d (le-of-suc-le-suc h)) (λ z. nz (sym q ∙ z)) (q ∙ sym e)))
+      (set-is i n f d l k (le-of-suc-le-suc h) e nz (tail-distinct i x l u))
     where
-      go : (b : Bool) → T (not b) → map (at (λ x. eqb (i x) n) f) l ≡ set l k (f (getD l k d)) → _≡_ {A = List A} (cond b (f x) x ∷ map (at (λ x. eqb (i x) n) f) l) (x ∷ set l k (f (getD l k d)))
+      go : (b : Bool) → T (not b) → map (at (λ x. eqb (i x) n) f) l ≡ set l k (f (getD l k d))
+          → _≡_ {A = List A} (cond b (f x) x ∷ map (at (λ x. eqb (i x) n) f) l) (x ∷ set l k (f (getD l k d)))
       go true h r = absurd h
       go false h r = ap (λ y. x ∷ y) r
 
   -- the first that passes
-  pub fill-is : (t : A → Bool) (a d : A) (l : List A) (k : ℕ) → k < length l → T (t (getD l k d)) → ((j : ℕ) → j < k → T (not (t (getD l j d)))) → fill t a l ≡ set l k a
+  pub fill-is : (t : A → Bool) (a d : A) (l : List A) (k : ℕ) → k < length l → T (t (getD l k d)) → ((j : ℕ) → j < k → T (not (t (getD l j d))))
+      → fill t a l ≡ set l k a
   unfolding fill
   fill-is t a d [] k h p q = absurd (not-suc-le-zero h)
   fill-is t a d (x ∷ l) zero h p q = go (t x) p
@@ -55,7 +63,8 @@ module _ {A : Type 0} where
       go true h r = absurd h
       go false h r = ap (λ y. x ∷ y) r
 
-  pub find-is : (t : A → Bool) (d : A) (l : List A) (k : ℕ) → k < length l → T (t (getD l k d)) → ((j : ℕ) → j < k → T (not (t (getD l j d)))) → find t d l ≡ getD l k d
+  pub find-is : (t : A → Bool) (d : A) (l : List A) (k : ℕ) → k < length l → T (t (getD l k d)) → ((j : ℕ) → j < k → T (not (t (getD l j d))))
+      → find t d l ≡ getD l k d
   unfolding find
   find-is t d [] k h p q = absurd (not-suc-le-zero h)
   find-is t d (x ∷ l) zero h p q = go (t x) p

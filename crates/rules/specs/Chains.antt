@@ -32,7 +32,8 @@ link s c = eqb (c .kind) 1 && in-date (s .clock) c && present s c
 unfoldable pub serves : (Certificate → Bool) → ℕ → ℕ → Certificate → Bool
 serves f d k c = eqb (c .domain) d && eqb (c .key) k && f c
 
--- "A good record within n links is, for n of at least 1, a trusted root, or a present issued record with clock ≤ expiry for which some record of the same domain is good within n − 1 and has its verifying key as key. Within 0 nothing is good."
+-- "A good record within n links is, for n of at least 1, a trusted root, or a present issued record with clock ≤ expiry for which some record of the
+-- same domain is good within n − 1 and has its verifying key as key. Within 0 nothing is good."
 unfoldable pub good : ℕ → Trust → Certificate → Bool
 good zero t c = false
 good (suc n) t c =

@@ -5,7 +5,8 @@ use mathlib.Core.List.{List, [], _∷_, map}
 use lib.Dec.{eqb}
 use lib.ListN.{getD}
 use Rattle.bits.specs.Bits.{set-bit, clear-bit}
-use Rattle.records.specs.Phone.{Trust, Phone, no-certificate, no-executable, with-clock, with-card, with-mode, with-certificates, with-executables, marked, enabling, in-domain, permitted}
+use Rattle.records.specs.Phone.{Trust, Phone, no-certificate, no-executable, with-clock, with-card, with-mode, with-certificates}
+use Rattle.records.specs.Phone.{with-executables, marked, enabling, in-domain, permitted}
 use Rattle.records.specs.declared.Certificate.{Certificate}
 use Rattle.records.specs.declared.Executable.{Executable}
 use Rattle.records.specs.declared.Event.{Event}
@@ -21,7 +22,8 @@ phone-operator-root c = operator-root c && eqb (c .place) 0
 
 -- ---- the card rule
 
--- "if the present card has a valid-marked operator root, every operator root on the phone is marked invalid; otherwise every one on the phone whose owner is not the card's operator is"
+-- "if the present card has a valid-marked operator root, every operator root on the phone is marked invalid; otherwise every one on the phone whose
+-- owner is not the card's operator is"
 unfoldable pub retired : Phone → Certificate → Bool
 retired p c =
     phone-operator-root c

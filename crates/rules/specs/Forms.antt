@@ -10,7 +10,8 @@ use Rattle.records.specs.declared.Event.{Event}
 use Rattle.rules.specs.Words.{all, all-zero}
 use Rattle.rules.specs.ImageRules.{certificate-fits}
 
--- kind 5: "id, second = place, third = kind, fourth = domain, all four u32"; "A third party root gets mark 1, enabled 1 exactly if the standing mode is 1; other roots get mark 0"; an issued record gets 1 and 1 (I2)
+-- kind 5: "id, second = place, third = kind, fourth = domain, all four u32"; "A third party root gets mark 1, enabled 1 exactly if the standing mode
+-- is 1; other roots get mark 0"; an issued record gets 1 and 1 (I2)
 unfoldable pub new-certificate : ℕ → Event → Certificate
 new-certificate mode e =
     record {
@@ -29,7 +30,8 @@ new-certificate mode e =
 -- kind 9: "listed ids are u16 from byte 8": the last sixteen bytes as eight numbers
 abbrev pub eight : Event → List ℕ
 eight e =
-    e .key / 65536 ∷ e .key % 65536 ∷ e .verifying / 65536 ∷ e .verifying % 65536 ∷ e .owner / 65536 ∷ e .owner % 65536 ∷ e .expiry / 65536 ∷ e .expiry % 65536 ∷ []
+    e .key / 65536 ∷ e .key % 65536 ∷ e .verifying / 65536 ∷ e .verifying % 65536
+    ∷ e .owner / 65536 ∷ e .owner % 65536 ∷ e .expiry / 65536 ∷ e .expiry % 65536 ∷ []
 
 -- "fourth = number listed"
 abbrev pub listed : Event → List ℕ
@@ -41,7 +43,18 @@ unlisted e = drop (e .fourth) (eight e)
 -- the event taken as one of kind k: at its own kind it is the event itself
 abbrev pub with-kind : ℕ → Event → Event
 with-kind k e =
-    record { kind = k; actor = e .actor; id = e .id; second = e .second; third = e .third; fourth = e .fourth; key = e .key; verifying = e .verifying; owner = e .owner; expiry = e .expiry }
+    record {
+      kind = k;
+      actor = e .actor;
+      id = e .id;
+      second = e .second;
+      third = e .third;
+      fourth = e .fourth;
+      key = e .key;
+      verifying = e .verifying;
+      owner = e .owner;
+      expiry = e .expiry;
+    }
 
 -- ---- the form of each kind: "Fields not named below are 0"; "Where a kind names an id, 0 is out of range."
 

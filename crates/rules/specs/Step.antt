@@ -24,7 +24,8 @@ refused-at l = record { code = 1; domain = 0; links = 0; rule = fault l .rule; o
 unfoldable pub refusal : List ℕ → ℕ → Answer
 refusal l c = cond (eqb c 1) (refused-at l) (refused c)
 
--- "Domain and links are non-zero only for code 0 of verify and request: the executable's domain, and its link count if that domain is not 0": p is the phone after the event
+-- "Domain and links are non-zero only for code 0 of verify and request: the executable's domain, and its link count if that domain is not 0": p is
+-- the phone after the event
 unfoldable pub done : Event → Phone → Answer
 done e p =
     let x = executable-named p (e .id) in

@@ -53,7 +53,8 @@ gives e = record { event = e; withdraws = false; gives = true }
 abbrev neither : Event → Entry
 neither e = record { event = e; withdraws = false; gives = false }
 
--- "Withdrawing: 1, 3, 6, 8, 11, 14 and 9 with mode 0. Giving: 5, 10, 12, 13, 9 with mode 1, and 7 except on an operator root on a card. In neither: 2, 4, 9 with mode 2, 7 on a card's operator root."
+-- "Withdrawing: 1, 3, 6, 8, 11, 14 and 9 with mode 0. Giving: 5, 10, 12, 13, 9 with mode 1, and 7 except on an operator root on a card. In neither:
+-- 2, 4, 9 with mode 2, 7 on a card's operator root."
 abbrev pub entries : List Entry
 entries =
     withdraws (of-kind 1)

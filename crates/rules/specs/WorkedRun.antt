@@ -83,7 +83,8 @@ phone-key-stays-invalid = refl
 
 -- ---- "Boundaries, marked P"
 
--- third party certificates 5 to 1, each verified by the next, of which 1 is a root; 6 and 7, which verify each other; executables 1, 2 and 3, signed by the keys 4, 5 and 6
+-- third party certificates 5 to 1, each verified by the next, of which 1 is a root; 6 and 7, which verify each other; executables 1, 2 and 3, signed
+-- by the keys 4, 5 and 6
 abbrev pub chains-image : List ℕ
 chains-image =
     bytes 40 0x0001_0007_0000_0003_0001_0000_0000_0000_00000064_00000028_000000d0_000000d0_000000f4_000000f8

@@ -51,7 +51,10 @@ returns c =
     let w3 = w4 .before .before .before .before in
     let w2 = w3 .before .before .before .before in
     let w1 = w2 .before .before .before .before in
-    written (more (w1 .write16 .ensures) (more (w2 .write162 .ensures) (more (w3 .write8 .ensures) (more (w4 .write82 .ensures) (more (w5 .write83 .ensures) (more (w6 .write84 .ensures) done)))))) (omega arith)
+    written
+    (more (w1 .write16 .ensures) (more (w2 .write162 .ensures) (more (w3 .write8 .ensures)
+    (more (w4 .write82 .ensures) (more (w5 .write83 .ensures) (more (w6 .write84 .ensures) done))))))
+    (omega arith)
 
 pub write-small-spec : {M : Type 1} → statement M
 write-small-spec =
