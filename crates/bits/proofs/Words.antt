@@ -94,7 +94,7 @@ module _ {A : Type 0} (f : A → Bool) where
       go true ih = omega (arith, pow-suc 2 (length l))
       go false ih = omega (arith, pow-suc 2 (length l))
 
-  pub keep-nothing : (l : List A) → keep 0 f l ≡ 0
+  keep-nothing : (l : List A) → keep 0 f l ≡ 0
   unfolding keep
   keep-nothing [] = refl
   keep-nothing (x ∷ l) = rw (keep-nothing l)
@@ -279,7 +279,7 @@ module _ {A : Type 0} (d : ℕ) (l : List A) (v t : ℕ) (h : length l ≤ d) (p
   fits : v < 2 ^ d
   fits = let m = pow-mono {i = length l} {j = d} h in omega arith
 
-  pub lowest-bit : v - less-lowest d v ≡ 2 ^ t
+  lowest-bit : v - less-lowest d v ≡ 2 ^ t
   lowest-bit =
       let k = lowest-le d v (omega arith) fits in
       let j : 2 ^ t ≡ 2 ^ trailingZeros d v = ap (λ (n : ℕ). 2 ^ n) e in

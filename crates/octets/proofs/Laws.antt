@@ -8,7 +8,7 @@ use native.Mathlib.Numerals.{add-one}
 use native.Mathlib.Omega.{arith}
 use borrow.Author.Tests.{ne-eqb}
 use lib.Dec.{eqb}
-use lib.ListN.{length, getD, take, drop, set, replicate, length-append, length-drop, length-replicate, List·getD-append, take-append-drop}
+use lib.ListN.{length, getD, take, drop, set, length-append, length-drop, length-replicate, List·getD-append, take-append-drop}
 use lib.ListN.{replicate-append-replicate}
 use lib.Seq.{sets, sets-eq, getD-append-add, getD-drop, getD-take, length-take-le, set-at, drop-cons, take-suc}
 use Rattle.octets.specs.Octets.{be, bytes, put, zeros}
@@ -50,7 +50,7 @@ module _ (l : List ℕ) (i : ℕ) {m n : List ℕ} where
 
 -- ---- what stands in the run, and what stands outside
 
-pub getD-put-in : (l : List ℕ) (i : ℕ) (vs : List ℕ) (k : ℕ) → i + length vs ≤ length l → k < length vs → getD (put l i vs) (i + k) 0 ≡ getD vs k 0
+getD-put-in : (l : List ℕ) (i : ℕ) (vs : List ℕ) (k : ℕ) → i + length vs ≤ length l → k < length vs → getD (put l i vs) (i + k) 0 ≡ getD vs k 0
 unfolding put
 getD-put-in l i vs k h hk =
     let t : length (take i l) ≡ i = length-take-le i l (omega arith) in
@@ -58,7 +58,7 @@ getD-put-in l i vs k h hk =
     (subst (λ (n : ℕ). getD (take i l ++ (vs ++ drop (i + length vs) l)) (n + k) 0 ≡ getD vs k 0) t
     (getD-append-add (take i l) (vs ++ drop (i + length vs) l) k 0 ∙ List·getD-append vs (drop (i + length vs) l) 0 k hk))
 
-pub getD-put-before : (l : List ℕ) (i : ℕ) (vs : List ℕ) (j : ℕ) → i + length vs ≤ length l → j < i → getD (put l i vs) j 0 ≡ getD l j 0
+getD-put-before : (l : List ℕ) (i : ℕ) (vs : List ℕ) (j : ℕ) → i + length vs ≤ length l → j < i → getD (put l i vs) j 0 ≡ getD l j 0
 unfolding put
 getD-put-before l i vs j h hj =
     let t : length (take i l) ≡ i = length-take-le i l (omega arith) in
@@ -77,7 +77,7 @@ getD-put-after l i vs j h hj =
 -- ---- numbers, over the width
 
 -- a number goes by its own bytes alone
-pub be-same : (w : ℕ) (l m : List ℕ) (i j : ℕ) → ((k : ℕ) → k < w → getD l (i + k) 0 ≡ getD m (j + k) 0) → be w l i ≡ be w m j
+be-same : (w : ℕ) (l m : List ℕ) (i j : ℕ) → ((k : ℕ) → k < w → getD l (i + k) 0 ≡ getD m (j + k) 0) → be w l i ≡ be w m j
 unfolding be
 be-same zero l m i j h = refl
 be-same (suc zero) l m i j h = ap (λ (n : ℕ). getD l n 0) (sym (add-zero i)) ∙ h 0 (omega arith) ∙ ap (λ (n : ℕ). getD m n 0) (add-zero j)
@@ -89,7 +89,7 @@ be-skip w xs ys k =
     be-same w (xs ++ ys) ys (length xs + k) k
     (λ j hj. ap (λ (n : ℕ). getD (xs ++ ys) n 0) (add-assoc (length xs) k j) ∙ getD-append-add xs ys (k + j) 0)
 
-pub length-bytes : (w v : ℕ) → length (bytes w v) ≡ w
+length-bytes : (w v : ℕ) → length (bytes w v) ≡ w
 length-bytes zero v = refl
 length-bytes (suc zero) v = refl
 length-bytes (suc (suc w)) v = length-append (bytes (suc w) (v / 256)) (v % 256 ∷ []) ∙ ap (λ (n : ℕ). n + 1) (length-bytes (suc w) (v / 256)) ∙ add-one (suc w)
@@ -97,7 +97,7 @@ length-bytes (suc (suc w)) v = length-append (bytes (suc w) (v / 256)) (v % 256 
 pub join : (v : ℕ) → v / 256 * 256 + v % 256 ≡ v
 join v = omega arith
 
-pub be-bytes : (w v : ℕ) (ys : List ℕ) → be (suc w) (bytes (suc w) v ++ ys) 0 ≡ v
+be-bytes : (w v : ℕ) (ys : List ℕ) → be (suc w) (bytes (suc w) v ++ ys) 0 ≡ v
 unfolding be
 be-bytes zero v ys = refl
 be-bytes (suc w) v ys =

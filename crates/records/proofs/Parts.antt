@@ -31,7 +31,7 @@ module _ (p : Phone) where
   unfolding header-of
   length-header = refl
 
-  pub length-before-cards : length (before-cards p) ≡ cards-start (length (p .trust .certificates))
+  length-before-cards : length (before-cards p) ≡ cards-start (length (p .trust .certificates))
   unfolding before-cards
   length-before-cards =
       length-append (header-bytes p) (joined certificate-bytes (p .trust .certificates))

@@ -1,11 +1,10 @@
 -- Each record is read as it was written, and its bytes are those that it was read from. Assumes nothing.
-use mathlib.Core.Path.{_≡_, refl, _∙_}
+use mathlib.Core.Path.{_≡_, refl}
 use mathlib.Core.List.{List, _++_}
 use Prim.Native.Nat.{ℕ, zero, suc, _+_, _*_, _/_, _%_, _≤_, _<_}
 use native.Mathlib.Nat.{add-zero, add-assoc}
 use native.Mathlib.Omega.{arith}
 use lib.ListN.{length, getD, take, drop}
-use lib.Seq.{take-all}
 use Rattle.octets.specs.Octets.{be, be8}
 use Rattle.octets.proofs.Laws.{be-skip, join, high, low, Bytes}
 use Rattle.records.specs.declared.Certificate.{Certificate}
@@ -95,14 +94,6 @@ module _ (l : List ℕ) (b : Bytes l) where
   pub row-part : (a : ℕ) → a + row-size ≤ length l → row-bytes (row-read l a) ≡ take row-size (drop a l)
   unfolding be
   row-part a h = rw (cells l row-size a h) (simp add-zero)
-
-  event-part : (a : ℕ) → a + event-size ≤ length l → event-bytes (event-read l a) ≡ take event-size (drop a l)
-  unfolding be
-  event-part a h = rw (cells l event-size a h) (simp (upper, lower, add-assoc, add-zero))
-
-  -- an event's bytes, read and written, are the same bytes
-  pub event-bytes-read : length l ≡ event-size → event-bytes (event-read l 0) ≡ l
-  event-bytes-read h = event-part 0 (omega arith) ∙ take-all event-size l (omega arith)
 
 -- a byte of the row that stands at a
 pub row-byte-read : (l : List ℕ) (a d : ℕ) → d < row-size → row-byte (row-read l a) d ≡ be8 l (a + d)

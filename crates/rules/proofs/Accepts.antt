@@ -1,7 +1,7 @@
 -- The image rules as tests say what they say as propositions, for a phone and for bytes. Assumes nothing.
 use Prim.Native.Nat.{ℕ}
-use mathlib.Core.Bool.{Bool, true, false, not, _||_}
-use mathlib.Core.List.{List, [], _∷_, List·Memᴰ}
+use mathlib.Core.Bool.{Bool, true, false, not}
+use mathlib.Core.List.{List, _∷_}
 use mathlib.Core.Logic.{_≢_, _⊎_, inl, inr}
 use mathlib.Core.Path.{_≡_, refl, subst, sym}
 use lib.Dec.{T, eqb, eqb→eq}
@@ -17,7 +17,7 @@ use Rattle.rules.specs.ImageRules.{one-in-place, not-both, owned-by-card
 use Rattle.rules.specs.ImageRules.{i1, i2, i3, i4, i5, i6, i7, i8, cards-fit, phone-rules, broken, accepted}
 use Rattle.rules.proofs.Tests.{tests, neqb→ne, and-i, or-j, or-cases, by-test, not-elim, not-intro, Passes, first-out, first-in}
 use Rattle.rules.proofs.Lists.{all-out, all-in, pairs-out, pairs-in}
-use Rattle.rules.proofs.Accepted.{Held, Valid, Marks, Accepted}
+use Rattle.rules.proofs.Accepted.{Held, Marks, Accepted}
 use Rattle.rules.proofs.Fits.{slot-out, slot-in, named-out, named-in, executable-out, executable-in}
 use Rattle.rules.proofs.Pairs.{key-out, key-in, owns-out, owns-in}
 use Rattle.rules.proofs.Pairs.{in-place-out, in-place-in, not-both-out, not-both-in, owned-out, owned-in, manufacturer-out, manufacturer-in}
@@ -48,7 +48,7 @@ held-out p r =
       owners = λ c m. owns-out (p .cards) c (all-out (card-owns (p .cards)) l (search tests) c m);
     }
 
-pub marks-out : (p : Phone) → T (i5 p) → Marks (p .cards) (p .trust .seen) (p .trust .certificates)
+marks-out : (p : Phone) → T (i5 p) → Marks (p .cards) (p .trust .seen) (p .trust .certificates)
 unfolding i5
 marks-out p h =
     let l = p .trust .certificates in
@@ -68,7 +68,7 @@ chained-out t x h nz = go (or-cases (eqb (x .domain) 0) (chains-to t (x .signing
     go (inl z) = absurd (nz (eqb→eq (x .domain) 0 z))
     go (inr z) = z
 
-pub accepts-out : (p : Phone) → Ruled p → Accepted p
+accepts-out : (p : Phone) → Ruled p → Accepted p
 unfolding i3 i6 i7 i8 cards-fit
 accepts-out p r =
     let n = length (p .table) in
@@ -94,7 +94,7 @@ i4-in p h =
     let o : T (all (card-owns (p .cards)) l) = all-in (card-owns (p .cards)) l (λ c m. owns-in (p .cards) c (h .owners c m)) in
     search (and-i, h .ids)
 
-pub i5-in : (p : Phone) → Marks (p .cards) (p .trust .seen) (p .trust .certificates) → T (i5 p)
+i5-in : (p : Phone) → Marks (p .cards) (p .trust .seen) (p .trust .certificates) → T (i5 p)
 unfolding i5
 i5-in p o = search (and-i, each, both, mine, maker)
   where

@@ -9,7 +9,6 @@ use lib.ListN.{length}
 use Rattle.records.specs.Phone.{Seen, Phone}
 use Rattle.records.specs.declared.Certificate.{Certificate}
 use Rattle.records.specs.declared.Card.{Card}
-use Rattle.records.specs.declared.Executable.{Executable}
 use Rattle.rules.specs.declared.Fault.{Fault}
 use Rattle.rules.specs.Words.{_implies_, all, all-pairs}
 use Rattle.rules.specs.ImageRules.{known-place, slot-fits, card-fits, cards-fit, places-known, key-of-one-domain, card-owns, valid-in}
@@ -26,7 +25,7 @@ use Rattle.rules.proofs.More.{all-grows, all-and, pairs-grow, even-pair
 
 -- ---- the tests of pairs: each certificate passes with itself, and three of the four are even
 
-pub keys-grow : Grows (all-pairs key-of-one-domain) (λ l x. all (key-of-one-domain x) l)
+keys-grow : Grows (all-pairs key-of-one-domain) (λ l x. all (key-of-one-domain x) l)
 keys-grow = even-pairs-grow key-of-one-domain self even
   where
     self : (c : Certificate) → key-of-one-domain c c ≡ true
@@ -39,7 +38,7 @@ keys-grow = even-pairs-grow key-of-one-domain self even
     even c e = same (key-of-one-domain c e) (key-of-one-domain e c) (turn c e) (turn e c)
 
 module _ (t : ℕ) where
-  pub each-place-grows : Grows (all-pairs (one-in-place t)) (λ l x. all (one-in-place t x) l)
+  each-place-grows : Grows (all-pairs (one-in-place t)) (λ l x. all (one-in-place t x) l)
   each-place-grows = even-pairs-grow (one-in-place t) self even
     where
       self : (c : Certificate) → one-in-place t c c ≡ true
@@ -51,7 +50,7 @@ module _ (t : ℕ) where
       even : (c e : Certificate) → one-in-place t c e ≡ one-in-place t e c
       even c e = same (one-in-place t c e) (one-in-place t e c) (turn c e) (turn e c)
 
-  pub manufacturers-grow : Grows (all-pairs (one-manufacturer t)) (λ l x. all (one-manufacturer t x) l)
+  manufacturers-grow : Grows (all-pairs (one-manufacturer t)) (λ l x. all (one-manufacturer t x) l)
   manufacturers-grow = even-pairs-grow (one-manufacturer t) self even
     where
       self : (c : Certificate) → one-manufacturer t c c ≡ true
@@ -63,7 +62,7 @@ module _ (t : ℕ) where
       even : (c e : Certificate) → one-manufacturer t c e ≡ one-manufacturer t e c
       even c e = same (one-manufacturer t c e) (one-manufacturer t e c) (turn c e) (turn e c)
 
-pub not-both-grows : (s : Seen) → Grows (all-pairs (not-both s)) (λ l x. all (λ y. not-both s x y && not-both s y x) l)
+not-both-grows : (s : Seen) → Grows (all-pairs (not-both s)) (λ l x. all (λ y. not-both s x y && not-both s y x) l)
 not-both-grows s = pairs-grow (not-both s) (λ c. T-true (not-both s c c) (not-both-in s c c (λ v w q g. sym g ∙ q)))
 
 -- ---- the rules

@@ -1,7 +1,7 @@
 -- The lowest record that breaks a rule: how a loop finds it, what a rule of several parts makes of it, and what it is worth. Assumes nothing.
 use Prim.Native.Nat.{ℕ, zero, suc, _+_, _≤_, _<_, min}
 use mathlib.Core.Bool.{Bool, true, false, cond, not, _&&_, _||_}
-use mathlib.Core.List.{List, [], _∷_, _++_, map}
+use mathlib.Core.List.{List, [], _∷_, _++_}
 use mathlib.Core.Path.{_≡_, refl, sym, ap, _∙_, subst}
 use native.Mathlib.Nat.{suc-min-suc, zero-min, min-zero, le-of-suc-le-suc}
 use native.Mathlib.Numerals.{add-one}
@@ -175,10 +175,6 @@ both-grow {A} {f} {g} {m} {n} a b =
     turn true false false d = refl
     turn true false true d = refl
     turn true true c d = refl
-
-pub grows-same : {A : Type 0} {f g : List A → Bool} {m : List A → A → Bool} → ((l : List A) → f l ≡ g l) → Grows g m → Grows f m
-grows-same {A} {f} {g} {m} h s =
-    record { none = h [] ∙ s .none; one-more = λ l x. h (l ++ (x ∷ [])) ∙ s .one-more l x ∙ ap (λ k. k && m l x) (sym (h l)) }
 
 -- the same asked in other words
 pub grows-as : {A : Type 0} {f : List A → Bool} {m n : List A → A → Bool} → ((l : List A) (x : A) → m l x ≡ n l x) → Grows f m → Grows f n

@@ -29,7 +29,7 @@ mapped : (p q : Phone) (f : Certificate → Certificate) → q .trust .certifica
 mapped p q f e h i = rw e (map-at (λ c d. d .mark ≡ 1 → c .mark ≡ 1) f no-certificate (p .trust .certificates) (λ z. z) h i)
 
 -- the card rule takes marks and gives none
-pub card-rule-marks : (p : Phone) (i : ℕ) → certificate-at (card-rule p) i .mark ≡ 1 → certificate-at p i .mark ≡ 1
+card-rule-marks : (p : Phone) (i : ℕ) → certificate-at (card-rule p) i .mark ≡ 1 → certificate-at p i .mark ≡ 1
 unfolding card-rule
 card-rule-marks p =
     mapped p (card-rule p) _ refl

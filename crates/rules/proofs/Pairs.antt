@@ -4,14 +4,14 @@ use mathlib.Core.Bool.{Bool, not, _&&_}
 use mathlib.Core.List.{List, List·Memᴰ}
 use mathlib.Core.Logic.{_≢_}
 use mathlib.Core.Path.{_≡_}
-use lib.Dec.{T, eqb, T-not, not-T, eqb→eq}
-use Rattle.records.specs.Phone.{Seen, Trust, Phone}
+use lib.Dec.{T, eqb, eqb→eq}
+use Rattle.records.specs.Phone.{Seen, Trust}
 use Rattle.records.specs.declared.Certificate.{Certificate}
 use Rattle.records.specs.declared.Card.{Card}
 use Rattle.rules.specs.ImageRules.{operator-of, operator-root, valid-in, has-valid-operator, key-of-one-domain, card-owns}
 use Rattle.rules.specs.ImageRules.{one-in-place, not-both, owned-by-card, one-manufacturer}
-use Rattle.rules.proofs.Tests.{tests, eq→eqb, and-i, implies-out, implies-in}
-use Rattle.rules.proofs.Lists.{Some, any-in, any-out}
+use Rattle.rules.proofs.Tests.{tests, eq→eqb, implies-out, implies-in}
+use Rattle.rules.proofs.Lists.{any-in}
 use Rattle.rules.proofs.Accepted.{Valid}
 
 -- ---- I4
@@ -65,17 +65,13 @@ module _ (t : ℕ) (c e : Certificate) where
       implies-in (valid-in 2 t c && valid-in 2 t e) (eqb (c .id) (e .id)) (λ h. eq→eqb (c .id) (e .id) (f (search tests) (search tests)))
 
 -- a valid operator root in a place
-abbrev pub valid-at : Trust → ℕ → Certificate → Bool
+abbrev valid-at : Trust → ℕ → Certificate → Bool
 valid-at t n c = valid-in 1 (t .seen .clock) c && eqb (c .place) n
 
 pub has-valid-in : (t : Trust) (n : ℕ) (c : Certificate) → List·Memᴰ c (t .certificates) → Valid 1 (t .seen .clock) c → c .place ≡ n
     → T (has-valid-operator t n)
 unfolding has-valid-operator
 has-valid-in t n c m v e = any-in (valid-at t n) m (search tests)
-
-pub has-valid-out : (t : Trust) (n : ℕ) → T (has-valid-operator t n) → Some (valid-at t n) (t .certificates)
-unfolding has-valid-operator
-has-valid-out t n h = any-out (valid-at t n) (t .certificates) h
 
 -- ---- I5's sentences about the card present, one by one
 

@@ -32,14 +32,14 @@ fair r h = record {
   most-third = search (tests, leb→le) depth 8;
 }
 
-pub row-small : (r : Row) → T (row-fits r) → (d : ℕ) → row-byte r d ≤ 2
+row-small : (r : Row) → T (row-fits r) → (d : ℕ) → row-byte r d ≤ 2
 row-small r h zero = let f = fair r h in omega arith
 row-small r h (suc zero) = let f = fair r h in omega arith
 row-small r h (suc (suc zero)) = let f = fair r h in omega arith
 row-small r h (suc (suc (suc zero))) = let f = fair r h in omega arith
 row-small r h (suc (suc (suc (suc d)))) = omega arith
 
-pub row-least : (r : Row) → T (row-fits r) → (d : ℕ) → d ≤ 3 → row-byte r 0 ≤ row-byte r d
+row-least : (r : Row) → T (row-fits r) → (d : ℕ) → d ≤ 3 → row-byte r 0 ≤ row-byte r d
 row-least r h zero l = omega arith
 row-least r h (suc zero) l = let f = fair r h in omega arith
 row-least r h (suc (suc zero)) l = let f = fair r h in omega arith

@@ -6,7 +6,7 @@ use mathlib.Core.Logic.{_≢_}
 use mathlib.Core.Path.{_≡_, refl, sym, ap, _∙_}
 use native.Mathlib.Omega.{arith}
 use native.Mathlib.Nat.{le-of-suc-le-suc, not-suc-le-zero}
-use lib.Dec.{T, eqb, eqb→eq}
+use lib.Dec.{T, eqb}
 use lib.ListN.{getD, set, length}
 use Rattle.rules.specs.Words.{any, at, fill, find, distinct}
 use Rattle.rules.proofs.Tests.{eq→eqb, ne→neqb, or-i, or-j}

@@ -2,25 +2,25 @@
 use Prim.Native.Nat.{ℕ, zero, suc, _+_, _≤_, _<_}
 use mathlib.Core.Bool.{Bool, true, false, cond, not, _&&_, true≢false, and-assoc, and-true}
 use mathlib.Core.List.{List, [], _∷_, _++_}
-use mathlib.Core.Logic.{_⊎_, inl, inr}
+use mathlib.Core.Logic.{inl, inr}
 use mathlib.Core.Path.{_≡_, refl, sym, ap, ap₂, _∙_, subst}
 use native.Mathlib.Nat.{zero-add}
 use native.Mathlib.Omega.{arith}
 use native.Mathlib.Decide.{decLt}
 use borrow.Author.Tests.{eq-eqb, le-leb, lt-leb, le-ltb}
 use lib.Dec.{T, eqb, leb, leb→le, eqb→eq}
-use lib.ListN.{length, getD, take}
+use lib.ListN.{length, getD}
 use Rattle.records.specs.Sizes.{header-size, largest-image}
 use Rattle.records.specs.Layout.{certificate-read, card-read, executable-read, row-read}
 use Rattle.records.specs.Phone.{Phone, decode, no-certificate, no-card, no-executable, no-row, certificate-at, card-at, executable-at, row-at}
-use Rattle.records.specs.Frame.{Field, _right-if_, header-fits, framed, header-fields, total-byte, total-field, first-wrong, header-fault}
+use Rattle.records.specs.Frame.{Field, _right-if_, header-fits, framed, header-fields, total-byte, first-wrong, header-fault}
 use Rattle.records.proofs.Wrong.{too-short}
 use Rattle.records.proofs.Joined.{getD-tabulate}
 use Rattle.records.proofs.Said.{length-certificates, length-cards, length-executables, length-table, certificate-said}
 use Rattle.records.proofs.Fields.{fields}
 use Rattle.rules.specs.declared.Site.{Site}
 use Rattle.rules.specs.Words.{all, Check, _⇒_, first}
-use Rattle.rules.specs.ImageRules.{i1, i2, i3, i4, i5, i6, i7, i8, broken, accepted, cards-fit, present-known, places-known, row-fits}
+use Rattle.rules.specs.ImageRules.{i2, i3, i4, i5, i6, i7, i8, broken, accepted, cards-fit, present-known, places-known, row-fits}
 use Rattle.rules.specs.Faults.{lowest, of-certificates, of-executables, i3-site, sites, at-rule, no-fault, fault, offset-of, fault-offset}
 use Rattle.rules.specs.Named.{rules, is-right, i1-fields, Wrong-field, Lowest-at, Wrong-card, Within}
 use Rattle.rules.proofs.Tests.{and-l, and-r}

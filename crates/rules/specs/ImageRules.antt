@@ -79,6 +79,7 @@ unfoldable pub certificate-fits : Certificate → Bool
 certificate-fits c =
     certificate-ranges c && (eqb (c .kind) 0 implies root-fits c) && (eqb (c .kind) 1 implies issued-fits c)
 
+-- a slot, free or occupied
 abbrev pub slot-fits : Certificate → Bool
 slot-fits c = cond (free-certificate c) (zero-certificate c) (certificate-fits c)
 
@@ -87,6 +88,7 @@ i2 p = all slot-fits (p .trust .certificates)
 
 -- ---- I3 Card
 
+-- one card
 abbrev pub card-fits : Card → Bool
 card-fits k = not (eqb (k .number) 0) && eqb (k .blank) 0
 
@@ -174,6 +176,7 @@ zero-executable x = all-zero (x .id ∷ x .domain ∷ x .blank ∷ x .signing �
 unfoldable pub executable-fits : ℕ → Executable → Bool
 executable-fits actions x = leb (x .domain) 3 && eqb (x .blank) 0 && ltb (x .permissions) (2 ^ actions)
 
+-- a slot, free or occupied
 abbrev pub program-fits : ℕ → Executable → Bool
 program-fits actions x = cond (free-executable x) (zero-executable x) (executable-fits actions x)
 
