@@ -305,8 +305,9 @@ impl Opening {
     }
 }
 
-/// The full phone; the same with the signers last, where they are looked for longest; and damaged in eight ways: each breaks
-/// one rule, and in the last record that can break it, so that all of that rule and of those before it has to be asked.
+/// The full phone; the same with the signers last, where they are looked for longest, of those that are trusted and of all; and
+/// damaged in eight ways: each breaks one rule, and in the last record that can break it, so that all of that rule and of those
+/// before it has to be asked. The last damage is also done where all signers are last, the dearest image to open that is known.
 pub fn openings(slots: usize) -> Vec<Opening> {
     let frame = Frame::of(slots);
     let last = slots - 3;
@@ -318,6 +319,7 @@ pub fn openings(slots: usize) -> Vec<Opening> {
     vec![
         broken("open", 0, 0, &|_| ()),
         broken("open-signers-last", 0, 0, &|image| sign_by_the_last(image, &frame)),
+        broken("open-all-signed", 0, 0, &|image| sign_all_by_the_last(image, &frame)),
         broken("open-breaks-1", 1, 36, &|image| image.push(0)),
         // A free slot that is not all zero.
         broken("open-breaks-2", 2, frame.certificate(slots - 1), &|image| {
@@ -344,13 +346,29 @@ pub fn openings(slots: usize) -> Vec<Opening> {
             let before = frame.executable(last - 1);
             image.copy_within(before..before + 2, frame.executable(last));
         }),
-        // A key that nobody holds.
-        broken("open-breaks-8", 8, frame.executable(last), &|image| {
-            let at = frame.executable(last);
-            image[at + 2] = 3;
-            image[at + 4..at + 8].copy_from_slice(&60_000u32.to_be_bytes());
+        broken("open-breaks-8", 8, frame.executable(last), &|image| sign_by_nobody(image, frame.executable(last))),
+        broken("open-breaks-8-all", 8, frame.executable(last), &|image| {
+            sign_all_by_the_last(image, &frame);
+            sign_by_nobody(image, frame.executable(last));
         }),
     ]
+}
+
+/// A third party executable with a key that nobody holds.
+fn sign_by_nobody(image: &mut [u8], at: usize) {
+    image[at + 2] = 3;
+    image[at + 4..at + 8].copy_from_slice(&60_000u32.to_be_bytes());
+}
+
+/// Those without a domain get the third party one, so that every executable has a signer to be looked for.
+fn sign_all_by_the_last(image: &mut [u8], frame: &Frame) {
+    for slot in 0..frame.slots {
+        let at = frame.executable(slot);
+        if image[at..at + 2] != [0, 0] && image[at + 2] == 0 {
+            image[at + 2] = 3;
+        }
+    }
+    sign_by_the_last(image, frame);
 }
 
 /// Every trusted executable is signed by the last record of its domain.

@@ -3,57 +3,31 @@
 use libc::STDIN_FILENO;
 use libc::STDOUT_FILENO;
 use records::Event;
+use records::image;
 ghost use mathlib.Core.Bool.{cond};
 ghost use mathlib.Core.Path.{_≡_};
 ghost use lib.Dec.{leb};
 ghost use lib.ListN.{length};
 ghost use Prim.Native.Nat.{_+_, _≤_};
-ghost use Rattle.octets.specs.Octets.{put};
 ghost use Rattle.records.specs.Sizes.{event-size};
-ghost use Rattle.opening.specs.Opened.{Accepted-image};
-ghost use Rattle.bench.specs.Lines.{line, longest-line, heading};
+ghost use Rattle.rules.specs.AcceptedImage.{Accepted-image};
+ghost use Rattle.stream.specs.PrintedLines.{longest-line};
 
 // Events are numbered as far as 64 bits count: a million of them a second take half a million years to get there.
 const MOST_EVENTS: u64 = 18446744073709551615;
 
 // ---- text, collected in a buffer and written in large pieces
 
-// No line is longer: five numbers of at most 20 digits, and a byte behind each.
-const LONGEST_LINE: usize = 105;
-
 // Where the next line goes: behind what is collected or, where there is no room for it, at the start once that is written.
 fn room(out: &[u8], used: usize) -> usize
     requires { ⌜ (used ≤ length (now out)) × (longest-line ≤ length (now out)) ⌝ }
     ensures { λ r. ⌜ r ≡ cond (leb (used + longest-line) (length (now (out .entry)))) used 0 ⌝ }
 {
-    if LONGEST_LINE <= out.len() - used {
+    if stream::LONGEST_LINE <= out.len() - used {
         return used;
     }
     io::write_all(STDOUT_FILENO, &out[..used]);
     0
-}
-
-// The line of an event's answer put at a place: the place behind it.
-fn put_line(out: &mut [u8], at: usize, n: u64, kind: u8, a: rules::Answer) -> usize
-    requires { ⌜ at + longest-line ≤ length (now out) ⌝ }
-    ensures { λ r. ⌜ (now (out .exit) ≡ put (now (out .entry)) at (line n kind a)) × (r ≡ at + length (line n kind a)) ⌝ }
-{
-    let numbered = stream::put_number(out, at, n);
-    let kinded = stream::put_column(out, numbered, kind as u64);
-    let coded = stream::put_column(out, kinded, a.code as u64);
-    let placed = stream::put_column(out, coded, a.domain as u64);
-    let linked = stream::put_column(out, placed, a.links as u64);
-    stream::put_text(out, linked, b"\n");
-    linked + 1
-}
-
-// The first line, put at the start of a buffer: how long it is.
-fn put_heading(out: &mut [u8]) -> usize
-    requires { ⌜ length heading ≤ length (now out) ⌝ }
-    ensures { λ r. ⌜ (now (out .exit) ≡ put (now (out .entry)) 0 heading) × (r ≡ length heading) ⌝ }
-{
-    stream::put_text(out, 0, b"event kind code domain links\n");
-    29
 }
 
 // ---- a run
@@ -68,9 +42,9 @@ fn all_events(s: &mut [u8], v: &mut [u8], out: &mut [u8])
     let mut got = io::read_full(STDIN_FILENO, v);
     while n < MOST_EVENTS && 0 < got {
         n += 1;
-        let a = events::step_on(s, &v[..got]);
+        let a = events::step_accepted(s, &v[..got]);
         let at = room(out, used);
-        used = put_line(out, at, n, v[0], a);
+        used = stream::put_line(out, at, n, v[0], a);
         got = io::read_full(STDIN_FILENO, v);
     }
     io::write_all(STDOUT_FILENO, &out[..used]);
@@ -92,9 +66,9 @@ fn lesson(s: &mut [u8]) {
 
 fn main() {
     let mut first = [0u8; 29];
-    let told = put_heading(&mut first);
+    let told = stream::put_heading(&mut first);
     io::write_all(STDOUT_FILENO, &first[..told]);
-    let mut buffer = [0u8; 2536];
+    let mut buffer = [0u8; image::LARGEST];
     let got = stream::read_image(STDIN_FILENO, &mut buffer);
     lesson(&mut buffer[..got]);
 }

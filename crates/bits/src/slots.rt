@@ -3,7 +3,7 @@ ghost use mathlib.Core.Path.{_≡_};
 ghost use Prim.Native.Nat.{_<_};
 ghost use lib.Count.{trailingZeros};
 ghost use Rattle.bits.specs.Bits.{set-bit};
-ghost use Rattle.bits.specs.Words.{less-lowest};
+ghost use Rattle.bits.specs.SlotWord.{less-lowest};
 
 // The word with slot i in it.
 pub fn with_slot(w: u64, i: usize) -> u64

@@ -3,7 +3,7 @@ use Prim.Native.Nat.{ℕ, zero, suc, _≤_}
 use mathlib.Core.Bool.{Bool, _&&_, _||_}
 use mathlib.Core.List.{List}
 use mathlib.Core.Logic.{_⊎_, inl, inr}
-use mathlib.Core.Path.{_≡_, refl, subst}
+use mathlib.Core.Path.{_≡_, subst}
 use native.Mathlib.Omega.{arith}
 use lib.Dec.{T, eqb, eqb→eq}
 use Rattle.records.specs.Phone.{Trust}
@@ -13,7 +13,8 @@ use Rattle.rules.specs.Chains.{trusted-root, link, serves, good}
 use Rattle.rules.proofs.Tests.{tests, or-cases, neqb→ne, by-test}
 use Rattle.rules.proofs.Lists.{any-out, any-in}
 
-pub serves-more : (f g : Certificate → Bool) → ((c : Certificate) → T (f c) → T (g c)) → (d k : ℕ) (l : List Certificate) → T (any (serves f d k) l) → T (any (serves g d k) l)
+pub serves-more : (f g : Certificate → Bool) → ((c : Certificate) → T (f c) → T (g c)) → (d k : ℕ) (l : List Certificate)
+    → T (any (serves f d k) l) → T (any (serves g d k) l)
 unfolding serves
 serves-more f g h d k l t =
     let s = any-out (serves f d k) l t in
@@ -28,7 +29,8 @@ good-more (suc n) t c h =
     go (serves-more (good n t) (good (suc n) t) (good-more n t) (c .domain) (c .verifying) (t .certificates))
     (or-cases (trusted-root (t .seen) c) (link (t .seen) c && any (serves (good n t) (c .domain) (c .verifying)) (t .certificates)) h)
   where
-    go : (T (any (serves (good n t) (c .domain) (c .verifying)) (t .certificates)) → T (any (serves (good (suc n) t) (c .domain) (c .verifying)) (t .certificates)))
+    go : (T (any (serves (good n t) (c .domain) (c .verifying)) (t .certificates))
+        → T (any (serves (good (suc n) t) (c .domain) (c .verifying)) (t .certificates)))
         → T (trusted-root (t .seen) c) ⊎ T (link (t .seen) c && any (serves (good n t) (c .domain) (c .verifying)) (t .certificates))
         → T (trusted-root (t .seen) c || (link (t .seen) c && any (serves (good (suc n) t) (c .domain) (c .verifying)) (t .certificates)))
     go m (inl r) = search tests

@@ -14,18 +14,18 @@ use lib.Pow.{pow-pos}
 use Rattle.records.specs.Phone.{Trust, no-certificate}
 use Rattle.records.specs.declared.Certificate.{Certificate}
 use Rattle.bits.specs.Bits.{set-bit}
-use Rattle.bits.specs.Words.{word, any-of, less-lowest}
-use Rattle.bits.proofs.Laws.{or-set}
-use Rattle.bits.proofs.Words.{any-nothing, word-lt, word-none, word-same, word-or, Built, built-none, built-skips, built-takes, built-all}
+use Rattle.bits.specs.SlotWord.{word, any-of, less-lowest}
+use Rattle.bits.proofs.BitLaws.{or-set}
+use Rattle.bits.proofs.WordLaws.{any-nothing, word-lt, word-none, word-same, word-or, Built, built-none, built-skips, built-takes, built-all}
 use Rattle.rules.specs.Words.{any, least}
 use Rattle.rules.specs.Chains.{trusted-root, link, serves, good, most-links, within, links}
 use Rattle.rules.proofs.Tests.{tests, or-cases, eq→eqb, neqb→ne, same, eqb-turn}
 use Rattle.rules.proofs.Lists.{any-out, any-in}
 use Rattle.rules.proofs.Least.{least-small}
 use Rattle.rules.proofs.Loops.{any-rest, any-end}
-use Rattle.chain.specs.declared.Level.{Level}
-use Rattle.chain.specs.Keys.{slot, rooted, linked, reach, verifiers, Level-of}
-use Rattle.chain.proofs.Words.{any-none, any-same, any-or, word-any, Going, goes-to, some-here}
+use Rattle.chain.specs.declared.search.Level.{Level}
+use Rattle.chain.specs.SlotWords.{slot, rooted, linked, reach, verifiers, Level-of}
+use Rattle.chain.proofs.WordsAny.{any-none, any-same, any-or, word-any, Going, goes-to, some-here}
 
 none : (b : Bool) → (b && false) ≡ false
 none true = refl
@@ -91,7 +91,9 @@ level-fits t d p r s = subst (λ k. k < 2 ^ length (t .certificates)) (sym (s .l
   where
     go : (b : Bool) → cond b 0 (bitOr 0 (word (linked t d p) (t .certificates))) < 2 ^ length (t .certificates)
     go true = pow-pos (length (t .certificates))
-    go false = subst (λ k. k < 2 ^ length (t .certificates)) (sym (or-zero-l (word (linked t d p) (t .certificates)))) (word-lt (linked t d p) (t .certificates))
+    go false =
+        subst (λ k. k < 2 ^ length (t .certificates)) (sym (or-zero-l (word (linked t d p) (t .certificates))))
+        (word-lt (linked t d p) (t .certificates))
 
 -- ---- a sweep for one key, and the slots that are left
 

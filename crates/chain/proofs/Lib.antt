@@ -1,7 +1,11 @@
 pub mod Good
-pub mod Words
+pub mod WordsAny
 pub mod Sorting
 pub mod Rounds
 pub mod Levels
 pub mod Slot
-pub mod Holders
+pub mod FirstHolder
+pub mod ByDomain
+pub mod Own
+pub mod SettledInTurn
+pub mod Still

@@ -12,15 +12,15 @@ use lib.Pow.{pow-mono}
 use Rattle.records.specs.Phone.{Trust}
 use Rattle.records.specs.declared.Certificate.{Certificate}
 use Rattle.records.specs.declared.Executable.{Executable}
-use Rattle.bits.specs.Words.{word, any-of, keep}
-use Rattle.bits.proofs.Words.{any-nothing, keep-lt, keep-none, word-lt, word-none, word-same, word-or, word-less, keep-word}
+use Rattle.bits.specs.SlotWord.{word, any-of, keep}
+use Rattle.bits.proofs.WordLaws.{any-nothing, keep-lt, keep-none, word-lt, word-none, word-same, word-or, word-less, keep-word}
 use Rattle.rules.specs.Words.{any}
 use Rattle.rules.specs.Chains.{trusted-root, link, serves, good, within, chains-to}
-use Rattle.chain.specs.declared.Sorted.{Sorted}
-use Rattle.chain.specs.Keys.{chained-in, within-domain, Sorted-as, new-after, left-after, verified-by, Round-of, good-slots}
+use Rattle.chain.specs.declared.search.Sorted.{Sorted}
+use Rattle.chain.specs.SlotWords.{chained-in, within-domain, Sorted-as, new-after, left-after, verified-by, Round-of, good-slots}
 use Rattle.chain.proofs.Good.{good-more}
 use Rattle.chain.proofs.Sorting.{unrooted}
-use Rattle.chain.proofs.Words.{any-none, any-same, any-or, word-any, Going}
+use Rattle.chain.proofs.WordsAny.{any-none, any-same, any-or, word-any, Going}
 
 -- ---- the words of one domain
 

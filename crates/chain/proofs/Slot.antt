@@ -12,7 +12,7 @@ use Rattle.rules.specs.Chains.{trusted-root, link, serves, good}
 use Rattle.rules.proofs.Tests.{and-r, neqb→ne, ne→neqb, same}
 use Rattle.rules.proofs.Lists.{any-out}
 use Rattle.rules.proofs.Least.{least-small, least-passes, least-least}
-use Rattle.chain.specs.Keys.{reach}
+use Rattle.chain.specs.SlotWords.{reach}
 use Rattle.chain.proofs.Good.{serves-more, good-up}
 
 -- a test that more passes the further one goes

@@ -10,10 +10,10 @@ use lib.ListN.{length}
 use Rattle.records.specs.Phone.{Seen, Trust, no-certificate}
 use Rattle.records.specs.declared.Certificate.{Certificate}
 use Rattle.bits.specs.Bits.{set-bit}
-use Rattle.bits.proofs.Words.{Built, built-none, built-skips, built-takes, built-all}
+use Rattle.bits.proofs.WordLaws.{Built, built-none, built-skips, built-takes, built-all}
 use Rattle.rules.specs.Chains.{valid-root, trusted-root, link}
 use Rattle.rules.proofs.Tests.{tests}
-use Rattle.chain.specs.Keys.{slot, within-domain, Sorted-as}
+use Rattle.chain.specs.SlotWords.{slot, within-domain, Sorted-as}
 
 -- a link is issued, and no root
 pub unrooted : (s : Seen) (c : Certificate) → T (link s c) → trusted-root s c ≡ false

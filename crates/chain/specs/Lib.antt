@@ -1,1 +1,3 @@
-pub mod Keys
+pub mod SlotWords
+pub mod Breaks
+pub mod Settling

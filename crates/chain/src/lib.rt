@@ -1,316 +1,36 @@
-// The search for chains, twice: the good slots of a domain, for all its executables at once, and the link count of one key.
-// Either way a round is one word, with a bit for each slot. For a domain, one sweep finds its roots and links; then each of three
-// rounds looks at the links that are not good yet, and at the slots that the round before added. For one key there are at most four levels
-// back from it, with a sweep of all slots for each key of a level, which ends at a trusted root. At most 64 + 3 * 64 * 128 pairs of slots
-// are looked at, whatever the image: no path is followed, so nothing grows with their number.
-use bits::slots;
+// What a signing key chains to, which executables still chain, and whether a change can break a chain. The search itself is in `search`.
+mod search;
+
 use records::Certificate;
-use records::Executable;
 use records::image;
 use rules::Chained;
-ghost use mathlib.Core.Path.{_≡_};
-ghost use mathlib.Core.Bool.{cond, _&&_};
-ghost use Prim.Native.Nat.{ℕ, suc, _+_, _<_, _^_};
-ghost use lib.Dec.{eqb};
+ghost use Prim.Native.Nat.{_<_, _≤_};
 ghost use lib.ListN.{length};
-ghost use Rattle.records.specs.Phone.{Trust, decode};
+ghost use mathlib.Core.Path.{_≡_};
+ghost use Rattle.chain.specs.Breaks.{runs-out};
+ghost use Rattle.chain.specs.SlotWords.{chained-in, good-slots, holder, slot};
+ghost use Rattle.rules.specs.AcceptedImage.{Keyed};
+ghost use Rattle.chain.specs.Settling.{Domains-known, Next-unchained, settle-in};
 ghost use Rattle.records.specs.Frame.{Framed};
-ghost use Rattle.bits.specs.Words.{any-of, keep};
-ghost use Rattle.rules.specs.Words.{least};
-ghost use Rattle.rules.specs.Chains.{present, in-date, valid-root, trusted-root, link, good, links, chain-of};
-ghost use Rattle.chain.specs.Keys.{slot, chained-in, Sorted-as, within-domain, verified-by, Round-of, good-slots, reach, verifiers, Level-of, Keyed, holder};
-
-// The slots of a domain that count: its trusted roots and its links.
-struct Sorted {
-    roots: u64,
-    links: u64,
-}
-
-// What one level of the search back from a key found: a trusted root, or else its links.
-struct Level {
-    found: bool,
-    links: u64,
-}
-
-pub fn is_present(s: &[u8], c: Certificate) -> bool
-    requires { ⌜ Framed (now s) ⌝ }
-    ensures { λ r. ⌜ r ≡ present (decode (now (s .entry)) .trust .seen) c ⌝ }
-{
-    (c.place == 0) | (c.place == image::card_present(s))
-}
-
-pub fn in_date(clock: u32, c: Certificate) -> bool
-    ensures { λ r. ⌜ r ≡ in-date clock c ⌝ }
-{
-    clock <= c.expiry
-}
-
-// A root that is marked valid. The clock has no say yet.
-pub fn valid_root(clock: u32, c: Certificate) -> bool
-    ensures { λ r. ⌜ r ≡ valid-root clock c ⌝ }
-{
-    (c.kind == 0) & (c.mark == 1)
-}
-
-fn trusted_root(s: &[u8], c: Certificate) -> bool
-    requires { ⌜ Framed (now s) ⌝ }
-    ensures { λ r. ⌜ r ≡ trusted-root (decode (now (s .entry)) .trust .seen) c ⌝ }
-{
-    valid_root(image::clock(s), c) & (c.enabled == 1) & is_present(s, c)
-}
-
-fn is_link(s: &[u8], c: Certificate) -> bool
-    requires { ⌜ Framed (now s) ⌝ }
-    ensures { λ r. ⌜ r ≡ link (decode (now (s .entry)) .trust .seen) c ⌝ }
-{
-    (c.kind == 1) & in_date(image::clock(s), c) & is_present(s, c)
-}
-
-// Whether one of the slots has this key.
-fn holds_key(s: &[u8], among: u64, key: u32) -> bool
-    requires { ⌜ Framed (now s) ⌝ }
-    requires { ⌜ among < 2 ^ length (decode (now s) .trust .certificates) ⌝ }
-    ensures { λ r. ⌜ r ≡ any-of among (λ c. eqb (c .key) key) (decode (now (s .entry)) .trust .certificates) ⌝ }
-{
-    let mut left = among;
-    while left != 0 {
-        let i = slots::lowest(left);
-        if image::certificate(s, i).key == key {
-            return true;
-        }
-        left = slots::rest(left);
-    }
-    false
-}
-
-// ---- the good slots of a domain
-
-// One sweep, which passes over the records of the other domains.
-fn sort(s: &[u8], domain: u8) -> Sorted
-    requires { ⌜ Framed (now s) ⌝ }
-    ensures { λ r. ⌜ Sorted-as (decode (now (s .entry)) .trust) domain r ⌝ }
-{
-    let all = image::certificate_slots(s);
-    let mut roots: u64 = 0;
-    let mut links: u64 = 0;
-    let mut i: usize = 0;
-    while i < all {
-        let slot = i;
-        i += 1;
-        let c = image::certificate(s, slot);
-        if c.domain != domain {
-            continue;
-        }
-        if trusted_root(s, c) {
-            roots = slots::with_slot(roots, slot);
-            continue;
-        }
-        if !is_link(s, c) {
-            continue;
-        }
-        links = slots::with_slot(links, slot);
-    }
-    Sorted { roots, links }
-}
-
-// The links of `left` that a slot of `fresh` verifies.
-fn verified(s: &[u8], left: u64, fresh: u64) -> u64
-    requires { ⌜ Framed (now s) ⌝ }
-    requires { ⌜ left < 2 ^ length (decode (now s) .trust .certificates) ⌝ }
-    requires { ⌜ fresh < 2 ^ length (decode (now s) .trust .certificates) ⌝ }
-    ensures { λ r. ⌜ r ≡ keep left (verified-by (decode (now (s .entry)) .trust) fresh) (decode (now (s .entry)) .trust .certificates) ⌝ }
-{
-    // Where the last round added nothing, this one cannot.
-    if fresh == 0 {
-        return 0;
-    }
-    let mut found: u64 = 0;
-    let mut next = left;
-    while next != 0 {
-        let here = next;
-        let i = slots::lowest(here);
-        next = slots::rest(here);
-        if !holds_key(s, fresh, image::certificate(s, i).verifying) {
-            continue;
-        }
-        // The bit that was taken from what is left.
-        found += here - next;
-    }
-    found
-}
-
-// "Recursion on the remaining links": what is good with n links more. The good slots so far are known, those of them that the last link
-// made so, and the links that are left: what an earlier slot verifies is good already, so that only the fresh ones can add one.
-fn good_beyond(s: &[u8], domain: u8, known: u64, fresh: u64, left: u64, n: u8) -> u64
-    requires { ⌜ Framed (now s) ⌝ }
-    requires { ⌜ fresh < 2 ^ length (decode (now s) .trust .certificates) ⌝ }
-    requires { ⌜ left < 2 ^ length (decode (now s) .trust .certificates) ⌝ }
-    ensures { λ r. ⌜ ((k : ℕ) → Round-of k (decode (now (s .entry)) .trust) domain known fresh left → r ≡ within-domain (decode (now (s .entry)) .trust) domain (good (suc (k + n)) (decode (now (s .entry)) .trust))) ⌝ }
-{
-    if n == 0 {
-        return known;
-    }
-    let found = verified(s, left, fresh);
-    good_beyond(s, domain, known | found, found, left ^ found, n - 1)
-}
-
-// What is good within n links, a trusted root being the first.
-fn good_within(s: &[u8], domain: u8, n: u8) -> u64
-    requires { ⌜ Framed (now s) ⌝ }
-    ensures { λ r. ⌜ r ≡ within-domain (decode (now (s .entry)) .trust) domain (good n (decode (now (s .entry)) .trust)) ⌝ }
-{
-    if n == 0 {
-        return 0;
-    }
-    let c = sort(s, domain);
-    good_beyond(s, domain, c.roots, c.roots, c.links, n - 1)
-}
-
-// The good slots of a domain: found once, they serve for all its executables.
-pub fn good_slots(s: &[u8], domain: u8) -> u64
-    requires { ⌜ Framed (now s) ⌝ }
-    ensures { λ r. ⌜ r ≡ good-slots (decode (now (s .entry)) .trust) domain ⌝ }
-{
-    good_within(s, domain, 4)
-}
-
-// Whether x chains to a domain, if that is its domain, by the good slots of the domain.
-pub fn is_chained(s: &[u8], domain: u8, good: u64, x: Executable) -> bool
-    requires { ⌜ Framed (now s) ⌝ }
-    requires { ⌜ good ≡ good-slots (decode (now s) .trust) domain ⌝ }
-    ensures { λ r. ⌜ r ≡ chained-in domain (decode (now (s .entry)) .trust) x ⌝ }
-{
-    if x.domain != domain {
-        return true;
-    }
-    if x.signing == 0 {
-        return false;
-    }
-    holds_key(s, good, x.signing)
-}
-
-// ---- one key alone, by a search back from it
-
-fn has_key(domain: u8, key: u32, c: Certificate) -> bool
-    ensures { λ r. ⌜ r ≡ (eqb (c .domain) domain && eqb (c .key) key) ⌝ }
-{
-    (c.domain == domain) & (c.key == key)
-}
-
-// Whether a record of the domain with this key is a trusted root. Where none is, the links with it join those of the level: every record
-// is looked at, since a good one may stand anywhere.
-fn sweep(s: &[u8], domain: u8, key: u32, level: u64) -> Level
-    requires { ⌜ Framed (now s) ⌝ }
-    ensures { λ r. ⌜ Level-of (decode (now (s .entry)) .trust) domain (λ v. eqb v key) level r ⌝ }
-{
-    let all = image::certificate_slots(s);
-    let mut links = level;
-    let mut i: usize = 0;
-    while i < all {
-        let here = i;
-        i += 1;
-        let c = image::certificate(s, here);
-        if !has_key(domain, key, c) {
-            continue;
-        }
-        if trusted_root(s, c) {
-            return Level {
-                found: true,
-                links: 0,
-            };
-        }
-        if !is_link(s, c) {
-            continue;
-        }
-        links = slots::with_slot(links, here);
-    }
-    Level {
-        found: false,
-        links,
-    }
-}
-
-// The next level: what the verifying keys of these links lead to. A key that a slot of it has already is not looked for again.
-fn up(s: &[u8], domain: u8, level: u64) -> Level
-    requires { ⌜ Framed (now s) ⌝ }
-    requires { ⌜ level < 2 ^ length (decode (now s) .trust .certificates) ⌝ }
-    ensures { λ r. ⌜ Level-of (decode (now (s .entry)) .trust) domain (verifiers (decode (now (s .entry)) .trust) level) 0 r ⌝ }
-{
-    let mut links: u64 = 0;
-    let mut left = level;
-    while left != 0 {
-        let i = slots::lowest(left);
-        left = slots::rest(left);
-        let key = image::certificate(s, i).verifying;
-        if holds_key(s, links, key) {
-            continue;
-        }
-        let more = sweep(s, domain, key, links);
-        if more.found {
-            return Level {
-                found: true,
-                links: 0,
-            };
-        }
-        links = more.links;
-    }
-    Level {
-        found: false,
-        links,
-    }
-}
-
-// A count of links with one more below them, where there is a chain.
-fn one_more(n: u8) -> u8
-    requires { ⌜ n < 255 ⌝ }
-    ensures { λ r. ⌜ r ≡ cond (eqb n 0) 0 (suc n) ⌝ }
-{
-    if n == 0 {
-        return 0;
-    }
-    n + 1
-}
-
-// "Recursion on the remaining links": how many levels above these links the first trusted root stands, and 0 where none is within n.
-fn climb(s: &[u8], domain: u8, level: u64, n: u8) -> u8
-    requires { ⌜ Framed (now s) ⌝ }
-    requires { ⌜ level < 2 ^ length (decode (now s) .trust .certificates) ⌝ }
-    ensures { λ r. ⌜ r ≡ least n (λ m. reach m (decode (now (s .entry)) .trust) domain (verifiers (decode (now (s .entry)) .trust) level)) ⌝ }
-{
-    if n == 0 {
-        return 0;
-    }
-    let next = up(s, domain, level);
-    if next.found {
-        return 1;
-    }
-    one_more(climb(s, domain, next.links, n - 1))
-}
-
-// How many levels back from a key the first trusted root stands, and 0 where none is within n.
-fn links_within(s: &[u8], domain: u8, key: u32, n: u8) -> u8
-    requires { ⌜ Framed (now s) ⌝ }
-    ensures { λ r. ⌜ r ≡ least n (λ m. reach m (decode (now (s .entry)) .trust) domain (λ v. eqb v key)) ⌝ }
-{
-    if n == 0 {
-        return 0;
-    }
-    let first = sweep(s, domain, key, 0);
-    if first.found {
-        return 1;
-    }
-    one_more(climb(s, domain, first.links, n - 1))
-}
+ghost use Rattle.records.specs.Phone.{decode, encode};
+ghost use lib.Dec.{T};
+ghost use Prim.Native.Nat.{min};
+ghost use Rattle.rules.specs.Words.{all};
+ghost use Rattle.rules.specs.ImageRules.{i7, i8};
+ghost use Rattle.rules.specs.Faults.{lowest, of-executables};
+ghost use Rattle.rules.specs.Chains.{chain-of, good, links};
+ghost use Rattle.rules.specs.Effects.{settle};
+ghost use Rattle.rules.specs.Words.{any};
 
 // The link count of a signing key for a domain.
 pub fn links_of(s: &[u8], key: u32, domain: u8) -> u8
     requires { ⌜ Framed (now s) ⌝ }
     ensures { λ r. ⌜ r ≡ links (decode (now (s .entry)) .trust) key domain ⌝ }
 {
-    if (key == 0) | (domain == 0) {
+    if (key == 0) | (domain == records::UNTRUSTED) {
         return 0;
     }
-    links_within(s, domain, key, 4)
+    search::links_within(s, domain, key, search::MOST_LINKS)
 }
 
 // Whether slot i is good within n links.
@@ -323,13 +43,13 @@ pub fn is_good(s: &[u8], n: u8, i: usize) -> bool
         return false;
     }
     let c = image::certificate(s, i);
-    if trusted_root(s, c) {
+    if search::trusted_root(s, c) {
         return true;
     }
-    if !is_link(s, c) {
+    if !search::is_link(s, c) {
         return false;
     }
-    links_within(s, c.domain, c.verifying, n - 1) != 0
+    search::links_within(s, c.domain, c.verifying, n - 1) != 0
 }
 
 // The domain of the first record with a key, good or not, and 0 where none has it.
@@ -359,9 +79,117 @@ pub fn chain_of(s: &[u8], key: u32) -> Chained
     let links = links_of(s, key, domain);
     if links == 0 {
         return Chained {
-            domain: 0,
+            domain: records::UNTRUSTED,
             links: 0,
         };
     }
     Chained { domain, links }
+}
+
+// The first executable from a slot on that has the domain and does not chain to it, or the number of slots where there is none.
+fn next_unchained(s: &[u8], domain: u8, good: u64, from: usize) -> usize
+    requires { ⌜ Framed (now s) ⌝ }
+    requires { ⌜ from ≤ length (decode (now s) .executables) ⌝ }
+    requires { ⌜ good ≡ good-slots (decode (now s) .trust) domain ⌝ }
+    ensures { λ r. ⌜ Next-unchained domain (decode (now (s .entry))) from r ⌝ }
+{
+    let slots = image::executable_slots(s);
+    let mut i = from;
+    while i < slots {
+        if !search::is_chained(s, domain, good, image::executable(s, i)) {
+            return i;
+        }
+        i += 1;
+    }
+    slots
+}
+
+// The same of one domain alone, whose good slots are found once for all its executables.
+fn unchained_in(s: &[u8], domain: u8) -> usize
+    requires { ⌜ Framed (now s) ⌝ }
+    ensures { λ r. ⌜ r ≡ lowest (all (chained-in domain (decode (now (s .entry)) .trust))) (decode (now (s .entry)) .executables) ⌝ }
+{
+    next_unchained(s, domain, search::good_slots(s, domain), 0)
+}
+
+fn least(a: usize, b: usize) -> usize
+    ensures { λ r. ⌜ r ≡ min a b ⌝ }
+{
+    if a < b {
+        return a;
+    }
+    b
+}
+
+// What I8 asks: the lowest executable that does not chain to the domain that it has, or the number of slots where there is none.
+pub fn first_unchained(s: &[u8]) -> usize
+    requires { ⌜ Framed (now s) ⌝ }
+    requires { ⌜ T (i7 (decode (now s))) ⌝ }
+    ensures { λ r. ⌜ r ≡ lowest (of-executables i8 (decode (now (s .entry)))) (decode (now (s .entry)) .executables) ⌝ }
+{
+    let operator = unchained_in(s, records::OPERATOR);
+    let manufacturer = unchained_in(s, records::MANUFACTURER);
+    let third = unchained_in(s, records::THIRD_PARTY);
+    least(least(operator, manufacturer), third)
+}
+
+// Takes the domain of each executable of one domain whose key no good slot has.
+fn settle_by(s: &mut [u8], domain: u8, good: u64)
+    requires { ⌜ Framed (now s) ⌝ }
+    requires { ⌜ good ≡ good-slots (decode (now s) .trust) domain ⌝ }
+    ensures { λ _. ⌜ now (s .exit) ≡ encode (settle-in domain (decode (now (s .entry)))) ⌝ }
+{
+    let slots = image::executable_slots(s);
+    let mut i = next_unchained(s, domain, good, 0);
+    while i < slots {
+        image::set_domain(s, i, records::UNTRUSTED);
+        i = next_unchained(s, domain, good, i + 1);
+    }
+}
+
+// The executables of one domain: its good slots are found once for all of them.
+pub fn settle_domain(s: &mut [u8], domain: u8)
+    requires { ⌜ Framed (now s) ⌝ }
+    ensures { λ _. ⌜ now (s .exit) ≡ encode (settle-in domain (decode (now (s .entry)))) ⌝ }
+{
+    let good = search::good_slots(s, domain);
+    settle_by(s, domain, good);
+}
+
+// "After every accepted event": each domain for itself, since a chain never leaves its domain.
+pub fn settle(s: &mut [u8])
+    requires { ⌜ Framed (now s) ⌝ }
+    requires { ⌜ Domains-known (decode (now s)) ⌝ }
+    ensures { λ _. ⌜ now (s .exit) ≡ encode (settle (decode (now (s .entry)))) ⌝ }
+{
+    settle_domain(s, records::OPERATOR);
+    settle_domain(s, records::MANUFACTURER);
+    settle_domain(s, records::THIRD_PARTY);
+}
+
+// Whether c is issued, in date now, and no longer at t. Most records are in date at t too, so that is asked first.
+fn is_running_out(clock: u32, t: u32, c: Certificate) -> bool
+    ensures { λ r. ⌜ r ≡ runs-out clock t c ⌝ }
+{
+    if terms::in_date(t, c) {
+        return false;
+    }
+    (c.kind == Certificate::ISSUED) & terms::in_date(clock, c)
+}
+
+// Whether an issued record is in date now, and no longer at t: only then can time break a chain.
+pub fn runs_out(s: &[u8], t: u32) -> bool
+    requires { ⌜ Framed (now s) ⌝ }
+    ensures { λ r. ⌜ r ≡ any (runs-out (decode (now (s .entry)) .trust .seen .clock) t) (decode (now (s .entry)) .trust .certificates) ⌝ }
+{
+    let slots = image::certificate_slots(s);
+    let clock = image::clock(s);
+    let mut i: usize = 0;
+    while i < slots {
+        if is_running_out(clock, t, image::certificate(s, i)) {
+            return true;
+        }
+        i += 1;
+    }
+    false
 }

@@ -19,17 +19,18 @@ use Rattle.rules.specs.Demands.{request-event, verify-event, grants, withdrawin
 use Rattle.rules.proofs.Tests.{neqb→ne, or-cases, by-test}
 use Rattle.rules.proofs.Accepted.{Accepted}
 use Rattle.rules.proofs.Accepts.{accepted-out}
-use Rattle.demands.specs.Runs.{event-of, is-request, Each-in-turn, Withdrawing-run, Giving-run, verified as image-verified}
-use Rattle.demands.proofs.After.{after, after-all}
-use Rattle.demands.proofs.Kept.{accepted-after, accepted-after-all}
-use Rattle.demands.proofs.Order.{Under, under-refl, under-trans}
+use Rattle.keeping.specs.OneEvent.{event-of}
+use Rattle.demands.specs.Runs.{is-request, Each-in-turn, Withdrawing-run, Giving-run, verified as image-verified}
+use Rattle.keeping.proofs.After.{after, after-all}
+use Rattle.keeping.proofs.AcceptedKept.{accepted-after, accepted-after-all}
+use Rattle.keeping.proofs.Order.{Under, under-refl, under-trans}
 use Rattle.demands.proofs.Grant.{granted, no-more}
-use Rattle.demands.proofs.Done.{refused-still}
-use Rattle.demands.proofs.Settle.{request-still}
-use Rattle.demands.proofs.Withdraw.{withdrawing-under}
-use Rattle.demands.proofs.Give.{giving-over}
-use Rattle.demands.proofs.Verified.{verified, accepted-verified, verified-twice, under-verified}
-use Rattle.demands.proofs.Bytes.{code-whole, accepted-step, decode-step, step-other, accepted-run, run-written, whole, decode-run, whole-bytes}
+use Rattle.keeping.proofs.Done.{refused-still}
+use Rattle.keeping.proofs.Settle.{request-still}
+use Rattle.demands.proofs.Withdrawing.{withdrawing-under}
+use Rattle.demands.proofs.Giving.{giving-over}
+use Rattle.keeping.proofs.Verified.{verified, accepted-verified, verified-twice, under-verified}
+use Rattle.keeping.proofs.Bytes.{code-whole, accepted-step, decode-step, step-other, accepted-run, run-written, whole, decode-run, whole-bytes}
 
 -- an event that passes the test at the phone that it meets, or is a request or refused there
 abbrev met : (Phone → Event → Bool) → Phone → Event → Bool
@@ -91,7 +92,8 @@ module _ (p : Phone) (ok : Accepted p) (es : List Event) where
 
   more-granted-verified : Each-met giving es p → (n a : ℕ) → T (granted (verified p) n a) → T (granted (verified (after-all es p)) n a)
   more-granted-verified g =
-      no-more (verified p) (verified (after-all es p)) (under-verified p (after-all es p) ok reached (run-over es p ok g)) (accepted-verified (after-all es p) reached)
+      no-more (verified p) (verified (after-all es p)) (under-verified p (after-all es p) ok reached (run-over es p ok g))
+      (accepted-verified (after-all es p) reached)
 
 -- ---- the demand, of bytes
 
@@ -145,18 +147,21 @@ verified-again l ok = go (run-written (verifies l) l)
     once : List ℕ
     once = run l (verifies l)
 
-    same : decode (run once (verifies once)) ≡ decode once
+    again : List ℕ
+    again = run once (verifies once)
+
+    same : decode again ≡ decode once
     same =
         decode-verified once (then-accepted l ok)
         ∙ ap verified (decode-verified l ok)
         ∙ verified-twice (decode l) (is-accepted l ok)
         ∙ sym (decode-verified l ok)
 
-    twice : once ≡ encode (decode once) → (run once (verifies once) ≡ once) ⊎ (run once (verifies once) ≡ encode (decode (run once (verifies once)))) → run once (verifies once) ≡ once
+    twice : once ≡ encode (decode once) → (again ≡ once) ⊎ (again ≡ encode (decode again)) → again ≡ once
     twice w (inl s) = s
     twice w (inr a) = a ∙ ap encode same ∙ sym w
 
-    go : (once ≡ l) ⊎ (once ≡ encode (decode once)) → run once (verifies once) ≡ once
+    go : (once ≡ l) ⊎ (once ≡ encode (decode once)) → again ≡ once
     go (inl s) = ap (λ m. run m (verifies m)) s
     go (inr w) = twice w (run-written (verifies once) once)
 

@@ -13,7 +13,8 @@ use Rattle.rules.specs.Step.{step, run}
 use Rattle.rules.specs.Demands.{grants, withdrawing, giving}
 use Rattle.rules.specs.Computing.{computing}
 use Rattle.rules.specs.WorkedRun.{image}
-use Rattle.demands.specs.Runs.{Withdrawing-run, Giving-run, event-of, verified}
+use Rattle.demands.specs.Runs.{Withdrawing-run, Giving-run, verified}
+use Rattle.keeping.specs.OneEvent.{event-of}
 
 -- ---- runs of 01's image that change a grant; that it is accepted is `image-accepted` of crates/rules/specs/WorkedRun.antt
 

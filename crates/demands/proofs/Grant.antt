@@ -3,27 +3,26 @@ use Prim.Native.Nat.{ℕ, _≤_}
 use mathlib.Core.Bool.{Bool, false, not, _||_}
 use mathlib.Core.List.{List·Memᴰ}
 use mathlib.Core.Logic.{_≢_, _⊎_, inl, inr, _↔_}
-use mathlib.Core.Path.{_≡_, subst, subst₂, sym, ap, _∙_}
+use mathlib.Core.Path.{_≡_, subst, subst₂, sym, _∙_}
 use native.Mathlib.Omega.{arith}
 use native.Mathlib.Nat.{le-refl}
 use lib.Dec.{T, eqb, ltb, ltb→lt, lt→ltb, eqb→eq}
 use lib.ListN.{length, getD}
 use Rattle.records.specs.Layout.{row-byte}
-use Rattle.records.specs.Phone.{Phone, no-executable, no-row, row-at}
+use Rattle.records.specs.Phone.{Phone, no-row, row-at}
 use Rattle.records.specs.declared.Executable.{Executable}
 use Rattle.rules.specs.Forms.{action-form}
-use Rattle.rules.specs.Codes.{is-executable, executable-named, executable-known, table-byte, has-permission, code-of}
+use Rattle.rules.specs.Codes.{executable-named, executable-known, table-byte, has-permission, code-of}
 use Rattle.rules.specs.Demands.{request-event}
 use Rattle.rules.proofs.Tests.{tests, by-test, nand, not-elim, not-intro, eq→eqb, neqb→ne}
-use Rattle.rules.proofs.Lists.{find-in, any-in}
-use Rattle.rules.proofs.Distinct.{alone}
-use Rattle.rules.proofs.Rows.{row-at-small, row-at-least}
-use Rattle.rules.proofs.Accepted.{Accepted, Stored}
+use Rattle.rules.proofs.TableRules.{row-at-small, row-at-least}
+use Rattle.rules.proofs.Accepted.{Accepted}
 use Rattle.rules.proofs.Shortest.{chains-signed, chains-chain}
 use Rattle.demands.specs.Runs.{Granted}
-use Rattle.demands.proofs.Told.{Told, told}
-use Rattle.demands.proofs.Done.{the-tests, told-done, nor-i, nand-i}
-use Rattle.demands.proofs.Order.{Below, Over, Under}
+use Rattle.keeping.proofs.Unrefused.{Unrefused, unrefused}
+use Rattle.keeping.proofs.Naming.{known-executable, the-executable, small-domain}
+use Rattle.keeping.proofs.Done.{the-tests, unrefused-done, nor-i, nand-i}
+use Rattle.keeping.proofs.Order.{Below, Over, Under}
 
 -- the request of executable n for action a is granted
 abbrev pub granted : Phone → ℕ → ℕ → Bool
@@ -48,7 +47,7 @@ record Grant (p : Phone) (n a : ℕ) : Type 0 where
 grant-out : (p : Phone) (n a : ℕ) → T (granted p n a) → Grant p n a
 unfolding the-tests action-form table-byte
 grant-out p n a h =
-    let d : Told p (request-event n a) = told p (request-event n a) h in
+    let d : Unrefused p (request-event n a) = unrefused p (request-event n a) h in
     let form : T (action-form p (request-event n a)) = d .formed in
     let known : T (not (not (executable-known p n) || false)) = d .known in
     let byte : T (not (eqb (byte-for p n a) 0)) = d .table-open in
@@ -57,13 +56,15 @@ grant-out p n a h =
       in-table = search tests;
       known = search tests;
       some-byte = search tests;
-      permission = λ one. not-elim (permission-for p n a) (nand (eqb (byte-for p n a) 1) (not (permission-for p n a)) (d .permitted) (eq→eqb (byte-for p n a) 1 one));
+      permission = λ one.
+          let needed : T (eqb (byte-for p n a) 1) = eq→eqb (byte-for p n a) 1 one in
+          not-elim (permission-for p n a) (nand (eqb (byte-for p n a) 1) (not (permission-for p n a)) (d .permitted) needed);
     }
 
 grant-in : (p : Phone) (n a : ℕ) → Grant p n a → T (granted p n a)
 unfolding the-tests action-form table-byte
 grant-in p n a g =
-    told-done p (request-event n a) tt
+    unrefused-done p (request-event n a) tt
     (record {
       formed = search tests;
       known = nor-i (not (executable-known p n)) false (not-intro (executable-known p n) (g .known)) tt;
@@ -80,41 +81,21 @@ grant-in p n a g =
       none-valid = tt;
       room = tt;
       table-open = search tests;
-      permitted = nand-i (eqb (byte-for p n a) 1) (not (permission-for p n a)) (λ one. not-intro (permission-for p n a) (g .permission (eqb→eq (byte-for p n a) 1 one)));
+      permitted =
+          nand-i (eqb (byte-for p n a) 1) (not (permission-for p n a))
+          (λ one. not-intro (permission-for p n a) (g .permission (eqb→eq (byte-for p n a) 1 one)));
     })
 
--- ---- the executable that a request names
-
-pub known-executable : (p : Phone) (n : ℕ) → T (executable-known p n) → List·Memᴰ (executable-named p n) (p .executables) × (executable-named p n .id ≡ n)
-unfolding executable-named executable-known
-known-executable p n k =
-    let f = find-in (is-executable n) no-executable (p .executables) k in
-    (f .0, eqb→eq (executable-named p n .id) n (f .1))
-
-module _ (p : Phone) (ok : Accepted p) where
-  pub small-domain : (x : Executable) → List·Memᴰ x (p .executables) → x .domain ≤ 3
-  small-domain x m = go (ok .executables x m)
-    where
-      go : (x ≡ no-executable) ⊎ Stored (length (p .table)) x → x .domain ≤ 3
-      go (inl z) = omega (arith, ap (λ x. x .domain) z)
-      go (inr s) = s .domain
-
-  the-executable : (x : Executable) (n : ℕ) → List·Memᴰ x (p .executables) → x .id ≡ n → n ≢ 0 → T (executable-known p n) × (executable-named p n ≡ x)
-  unfolding executable-known
-  the-executable x n m i nz =
-      let k : T (executable-known p n) = any-in (is-executable n) m (eq→eqb (x .id) n i) in
-      let f = known-executable p n k in
-      (k, alone (λ x. x .id) (p .executables) (ok .ids) (executable-named p n) x (f .0) m (λ z. nz (sym (f .1) ∙ z)) (f .1 ∙ sym i))
-
-  -- I6: the byte for domain 0 is the least
-  below-byte : (a : ℕ) (lo hi : Executable) → List·Memᴰ hi (p .executables) → Below lo hi → row-byte (row-at p a) (lo .domain) ≤ row-byte (row-at p a) (hi .domain)
-  below-byte a lo hi m b = go (b .domain)
-    where
-      go : (lo .domain ≡ 0) ⊎ (lo .domain ≡ hi .domain) → row-byte (row-at p a) (lo .domain) ≤ row-byte (row-at p a) (hi .domain)
-      go (inl e) =
-          subst (λ d. row-byte (row-at p a) d ≤ row-byte (row-at p a) (hi .domain)) (sym e)
-          (row-at-least p ok a (hi .domain) (small-domain hi m))
-      go (inr e) = subst (λ d. row-byte (row-at p a) (lo .domain) ≤ row-byte (row-at p a) d) e (le-refl _)
+-- I6: the byte for domain 0 is the least
+below-byte : (p : Phone) → Accepted p → (a : ℕ) (lo hi : Executable) → List·Memᴰ hi (p .executables) → Below lo hi
+    → row-byte (row-at p a) (lo .domain) ≤ row-byte (row-at p a) (hi .domain)
+below-byte p ok a lo hi m b = go (b .domain)
+  where
+    go : (lo .domain ≡ 0) ⊎ (lo .domain ≡ hi .domain) → row-byte (row-at p a) (lo .domain) ≤ row-byte (row-at p a) (hi .domain)
+    go (inl e) =
+        subst (λ d. row-byte (row-at p a) d ≤ row-byte (row-at p a) (hi .domain)) (sym e)
+        (row-at-least p ok a (hi .domain) (small-domain p ok hi m))
+    go (inr e) = subst (λ d. row-byte (row-at p a) (lo .domain) ≤ row-byte (row-at p a) d) e (le-refl _)
 
 -- ---- a grant, in the words of 01
 

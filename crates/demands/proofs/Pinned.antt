@@ -1,4 +1,4 @@
--- What the demands speak of is neither narrower nor wider than its words: a valid operator root is one, and a frame forbids what it does not name. Assumes nothing.
+-- What the demands speak of is neither narrower nor wider than its words: a valid operator root is one, and what no kind may touch is kept. Assumes nothing.
 use Prim.Native.Nat.{ℕ}
 use mathlib.Core.Bool.{Bool, not, _&&_, _||_}
 use mathlib.Core.List.{List, [], _∷_, _++_, map, List·Memᴰ, List·Memᴰ·head}
@@ -20,7 +20,7 @@ use Rattle.rules.specs.WorkedRun.{image}
 use Rattle.rules.proofs.Tests.{tests, eq→eqb, and-i, or-i, or-j}
 use Rattle.rules.proofs.Lists.{all-out}
 use Rattle.demands.specs.Runs.{Valid-operator}
-use Rattle.demands.specs.Frames.{Certificate-kept, Up-to-settling, Executable-kept}
+use Rattle.demands.specs.MayTouch.{Certificate-kept, Up-to-settling, Executable-kept}
 
 -- ---- a valid operator root
 
@@ -110,8 +110,8 @@ abbrev root : ℕ → ℕ → ℕ → ℕ → Certificate
 root id place domain mark =
     record { id = id; place = place; kind = 0; domain = domain; mark = mark; enabled = 1; key = 1000; verifying = 0; owner = 500; expiry = 0 }
 
-abbrev program : ℕ → ℕ → ℕ → Executable
-program id domain permissions = record { id = id; domain = domain; blank = 0; signing = 1000; permissions = permissions }
+abbrev executable : ℕ → ℕ → ℕ → Executable
+executable id domain permissions = record { id = id; domain = domain; blank = 0; signing = 1000; permissions = permissions }
 
 abbrev pub certificate-changes : List (Change Certificate)
 certificate-changes =
@@ -136,16 +136,16 @@ certificate-changes =
 abbrev pub executable-changes : List (Change Executable)
 executable-changes =
     -- 10: an executable has no domain when it is installed
-    changes (event 10 1 0 0 1000) no-executable (program 1 1 0) (λ x. x .domain)
+    changes (event 10 1 0 0 1000) no-executable (executable 1 1 0) (λ x. x .domain)
     -- 11: no other than the one named is deleted
-    ∷ changes (event 11 1 0 0 0) (program 2 0 0) no-executable (λ x. x .id)
+    ∷ changes (event 11 1 0 0 0) (executable 2 0 0) no-executable (λ x. x .id)
     -- 12: verify gives no permission
-    ∷ changes (event 12 1 0 0 0) (program 1 0 0) (program 1 0 1) (λ x. x .permissions)
+    ∷ changes (event 12 1 0 0 0) (executable 1 0 0) (executable 1 0 1) (λ x. x .permissions)
     -- 13, 14: no permission for another action is given or withdrawn
-    ∷ changes (event 13 1 0 0 0) (program 1 0 0) (program 1 0 2) (λ x. x .permissions)
-    ∷ changes (event 14 1 0 0 0) (program 1 0 2) (program 1 0 0) (λ x. x .permissions)
+    ∷ changes (event 13 1 0 0 0) (executable 1 0 0) (executable 1 0 2) (λ x. x .permissions)
+    ∷ changes (event 14 1 0 0 0) (executable 1 0 2) (executable 1 0 0) (λ x. x .permissions)
     -- 15: a request changes no domain into another
-    ∷ changes (event 15 1 0 0 0) (program 1 1 0) (program 1 2 0) (λ x. x .domain)
+    ∷ changes (event 15 1 0 0 0) (executable 1 1 0) (executable 1 2 0) (λ x. x .domain)
     ∷ []
 
 pub every-kind : (map (λ r. r .event .kind) certificate-changes ++ map (λ r. r .event .kind) executable-changes)

@@ -1,8 +1,8 @@
 -- THE THEOREMS. Each sentence of the three demands, and of 02's first item, with its statement; the files cited hold the arguments. Assumes nothing.
 -- l is an image and v an event, both any bytes; vs is a run of events, refused ones among them.
 -- What the statements speak of: `step`, `run` (rules, specs/Step), `code`, `rows` (specs/Codes), `accepted` (specs/ImageRules),
--- `grants` (specs/Demands), `Chain-within`, `Shortest` (specs/Explicit), and here specs/Runs and specs/Frames; of a fault: `fault`, `fault-offset`
--- (rules, specs/Faults), `Lowest-at`, `Wrong-field` (specs/Named).
+-- `grants` (specs/Demands), `Chain-within`, `Shortest` (specs/Explicit), here specs/Runs and specs/MayTouch, and `event-of`, `key-named`, `phone-after`
+-- (keeping, specs/OneEvent); of a fault: `fault`, `fault-offset` (rules, specs/Faults), `Lowest-at`, `Wrong-field` (specs/Named).
 use Prim.Native.Nat.{ℕ, suc, _≤_, _<_}
 use mathlib.Core.Bool.{true, false}
 use mathlib.Core.List.{List}
@@ -23,7 +23,7 @@ use Rattle.rules.specs.Chains.{most-links}
 use Rattle.rules.specs.Explicit.{Chain-within, Shortest}
 use Rattle.rules.specs.ImageRules.{i2, i4, i5, row-fits, i7, i8, accepted, «open», cards-fit, present-known, places-known}
 use Rattle.rules.specs.Faults.{of-certificates, of-executables, at-rule, no-fault, fault, fault-offset}
-use Rattle.rules.specs.Named.{rules, is-right, i1-fields, Wrong-field, Lowest-at, Wrong-card, Within}
+use Rattle.rules.specs.FaultNames.{rules, is-right, i1-fields, Wrong-field, Lowest-at, Wrong-card, Within}
 use Rattle.rules.specs.Codes.{executable-named, rows, code}
 use Rattle.rules.specs.Effects.{changed}
 use Rattle.rules.specs.Step.{refused-at, refusal, step, run}
@@ -33,13 +33,14 @@ use Rattle.rules.proofs.Accepts.{accepted-out}
 use Rattle.rules.proofs.Shortest.{chain-chains}
 use Rattle.rules.proofs.Domain as Domain
 use Rattle.rules.proofs.Where as Where
-use Rattle.demands.specs.Runs.{Applies, Withdrawing-run, Giving-run, verified, event-of, key-named, phone-after, Valid-operator, Granted}
-use Rattle.demands.specs.Frames.{Framed-change}
-use Rattle.demands.proofs.Table.{first-applies, first-lowest}
-use Rattle.demands.proofs.Bytes
-use Rattle.demands.proofs.Answers
-use Rattle.demands.proofs.Frame.{framed-changed}
-use Rattle.demands.proofs.Kept.{one-operator}
+use Rattle.demands.specs.Runs.{Applies, Withdrawing-run, Giving-run, verified, Valid-operator, Granted}
+use Rattle.keeping.specs.OneEvent.{event-of, key-named, phone-after}
+use Rattle.demands.specs.MayTouch.{Framed-change}
+use Rattle.demands.proofs.LowestRow.{first-applies, first-lowest}
+use Rattle.keeping.proofs.Bytes
+use Rattle.keeping.proofs.EventAnswers
+use Rattle.demands.proofs.TouchNoMore.{framed-changed}
+use Rattle.keeping.proofs.AcceptedKept.{one-operator}
 use Rattle.demands.proofs.Grant.{granted-exact}
 use Rattle.demands.proofs.Demand3
 
@@ -48,7 +49,7 @@ use Rattle.demands.proofs.Demand3
 module _ (l v : List ℕ) where
   -- "The answer is code, domain, links."
   pub answer-code : step l v .answer .code ≡ code l v
-  answer-code = Answers.answer-code l v
+  answer-code = EventAnswers.answer-code l v
 
   -- "Given exactly when", "The lowest that applies is given": a code that is given applies
   pub code-applies : code l v ≢ 0 → Applies (code l v) (rows l v)
@@ -62,22 +63,22 @@ module _ (l v : List ℕ) where
 
   -- "Every code other than 0 gives domain 0 and links 0 and leaves the image unchanged.": what else is told, `refusal`, is of 02
   pub refused-quiet : code l v ≢ 0 → (step l v .answer .domain ≡ 0) × (step l v .answer .links ≡ 0)
-  refused-quiet h = Answers.refused-quiet l v h
+  refused-quiet h = EventAnswers.refused-quiet l v h
 
   pub refused-unchanged : code l v ≢ 0 → step l v ≡ record { answer = refusal l (code l v); image = l }
   refused-unchanged h = Bytes.step-refused l v h
 
   -- "Domain and links are non-zero only for code 0 of verify and request"
   pub quiet : event-of v .kind ≢ 12 → event-of v .kind ≢ 15 → (step l v .answer .domain ≡ 0) × (step l v .answer .links ≡ 0)
-  quiet a b = Answers.answer-quiet l v a b
+  quiet a b = EventAnswers.answer-quiet l v a b
 
   -- "the executable's domain, and its link count if that domain is not 0"
   pub domain-told : code l v ≡ 0 → (event-of v .kind ≡ 12) ⊎ (event-of v .kind ≡ 15)
       → step l v .answer .domain ≡ executable-named (phone-after l v) (event-of v .id) .domain
-  domain-told h k = Answers.answer-domain l v h k
+  domain-told h k = EventAnswers.answer-domain l v h k
 
   pub no-domain-no-links : step l v .answer .domain ≡ 0 → step l v .answer .links ≡ 0
-  no-domain-no-links z = Answers.answer-none l v z
+  no-domain-no-links z = EventAnswers.answer-none l v z
 
   -- no event makes an image longer or shorter, whatever l and v are
   pub length-kept : length (step l v .image) ≡ length l
@@ -89,7 +90,7 @@ length-kept-run l vs = Bytes.length-run vs l
 -- "opening an image answers 0 or 1": 0 exactly if it is accepted
 pub open-accepts : (l : List ℕ) → ((«open» l ≡ 0) ↔ (accepted l ≡ true)) × ((«open» l ≡ 0) ⊎ («open» l ≡ 1))
 unfolding «open»
-open-accepts l = Answers.opened (accepted l)
+open-accepts l = EventAnswers.opened (accepted l)
 
 -- ==== Demand 2: each event does exactly what 01 says, and an accepted image stays accepted
 
@@ -128,14 +129,14 @@ module _ (l v : List ℕ) where
   -- a domain exactly if a chain of at most four exists
   pub verify-exact : code l v ≡ 0 → event-of v .kind ≡ 12 → (d : ℕ) → d ≢ 0
       → (step l v .answer .domain ≡ d) ↔ ((key-named l v ≢ 0) × Chain-within most-links (phone-after l v .trust) d (key-named l v))
-  verify-exact h i d nz = Answers.verify-exact l v h i d nz
+  verify-exact h i d nz = EventAnswers.verify-exact l v h i d nz
 
   -- the answer gives the shortest length
   pub count-shortest : code l v ≡ 0 → (event-of v .kind ≡ 12) ⊎ (event-of v .kind ≡ 15) → step l v .answer .domain ≢ 0
       → (step l v .answer .links ≢ 0)
       × (step l v .answer .links ≤ most-links)
       × Shortest (phone-after l v .trust) (step l v .answer .domain) (key-named l v) (step l v .answer .links)
-  count-shortest h k = Answers.count-shortest l v h k
+  count-shortest h k = EventAnswers.count-shortest l v h k
 
 module _ (l : List ℕ) (ok : accepted l ≡ true) where
   -- I1–I8 hold after every run
@@ -145,7 +146,8 @@ module _ (l : List ℕ) (ok : accepted l ≡ true) where
   -- at most one valid operator root is ever present
   pub one-valid-operator : (vs : List (List ℕ)) (c e : Certificate) → Valid-operator (decode (run l vs)) c → Valid-operator (decode (run l vs)) e → c ≡ e
   one-valid-operator vs c e m n =
-      one-operator (decode (run l vs)) (accepted-out (run l vs) (accepted-kept-run vs) .1) c e (m .stored) (n .stored) (m .valid) (n .valid) (m .present) (n .present)
+      one-operator (decode (run l vs)) (accepted-out (run l vs) (accepted-kept-run vs) .1) c e (m .stored) (n .stored) (m .valid) (n .valid)
+      (m .present) (n .present)
 
   -- "I4 makes d unique"
   pub one-domain : (k d f : ℕ) → k ≢ 0 → Chain-within most-links (decode l .trust) d k → Chain-within most-links (decode l .trust) f k → d ≡ f
@@ -199,11 +201,11 @@ module _ (l v : List ℕ) where
 
   -- "any step on a bad one, should also tell the first broken rule, 1 to 8, and a byte offset"
   pub told-where : code l v ≡ 1 → step l v .answer ≡ refused-at l
-  told-where h = Answers.told-where l v h
+  told-where h = EventAnswers.told-where l v h
 
   -- "the answer gains two numbers, 0 for other codes"
   pub told-no-fault : code l v ≢ 1 → (step l v .answer .rule ≡ 0) × (step l v .answer .offset ≡ 0)
-  told-no-fault h = Answers.told-no-fault l v h
+  told-no-fault h = EventAnswers.told-no-fault l v h
 
 module _ (l : List ℕ) where
   -- no fault exactly if accepted, and the number told shows it

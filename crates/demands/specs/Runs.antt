@@ -6,7 +6,7 @@ use mathlib.Core.Logic.{_≢_, _⊎_}
 use mathlib.Core.Path.{_≡_}
 use lib.Dec.{T, eqb}
 use lib.ListN.{length}
-use Rattle.records.specs.Layout.{row-byte, event-read, event-bytes}
+use Rattle.records.specs.Layout.{row-byte, event-bytes}
 use Rattle.records.specs.Phone.{Phone, row-at, decode}
 use Rattle.records.specs.declared.Certificate.{Certificate}
 use Rattle.records.specs.declared.Event.{Event}
@@ -17,15 +17,12 @@ use Rattle.rules.specs.ImageRules.{valid-in}
 use Rattle.rules.specs.Codes.{executable-named, executable-known, has-permission, code}
 use Rattle.rules.specs.Step.{step, run}
 use Rattle.rules.specs.Demands.{withdrawing, giving, verify-event}
+use Rattle.keeping.specs.OneEvent.{event-of}
 
 -- a row of the table of codes with this number applies
 pub data Applies (n : ℕ) : List Check → Type 0 where
   here : {b : Bool} {l : List Check} → T b → Applies n ((b ⇒ n) ∷ l)
   later : {c : Check} {l : List Check} → Applies n l → Applies n (c ∷ l)
-
--- what an event's bytes say
-abbrev pub event-of : List ℕ → Event
-event-of v = event-read v 0
 
 -- "A request changes nothing", so it may stand in either run
 abbrev pub is-request : Event → Bool
@@ -52,15 +49,6 @@ Giving-run = Each-in-turn giving
 -- "where every application is verified": a verify event for each executable slot, in order
 unfoldable pub verified : List ℕ → List ℕ
 verified l = run l (map (λ x. event-bytes (verify-event (x .id))) (decode l .executables))
-
--- ---- one event on an image
-
--- the signing key of the executable that it names, and the phone after it
-abbrev pub key-named : List ℕ → List ℕ → ℕ
-key-named l v = executable-named (decode l) (event-of v .id) .signing
-
-abbrev pub phone-after : List ℕ → List ℕ → Phone
-phone-after l v = decode (step l v .image)
 
 -- ---- operator roots
 

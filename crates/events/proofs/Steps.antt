@@ -1,14 +1,14 @@
 -- From the handlers to one step: the kind and the actor of an event, its length, and the image it meets. Assumes nothing.
 use Prim.Native.Nat.{ℕ, zero, suc, _≤_, _<_}
 use mathlib.Core.Bool.{Bool, true, false, cond, not, _&&_}
-use mathlib.Core.List.{List}
+use mathlib.Core.List.{List, [], _∷_}
 use mathlib.Core.Logic.{_≢_}
 use mathlib.Core.Path.{_≡_, refl, sym, ap, _∙_, subst}
 use native.Mathlib.Omega.{arith}
 use borrow.Author.Tests.{ne-eqb, lt-leb}
 use lib.Dec.{eqb, leb}
-use lib.ListN.{length, getD}
-use Rattle.octets.proofs.Laws.{Bytes}
+use lib.ListN.{length, getD, List·getD-eq-default}
+use Rattle.octets.proofs.ByteLaws.{Bytes}
 use Rattle.records.specs.Sizes.{event-size}
 use Rattle.records.specs.Layout.{event-read}
 use Rattle.records.specs.Phone.{Phone, decode, encode}
@@ -24,11 +24,12 @@ use Rattle.rules.specs.Codes.{code-of, code}
 use Rattle.rules.specs.Effects.{changed}
 use Rattle.rules.specs.Step.{Outcome, refused, refused-at, refusal, done, step}
 use Rattle.rules.proofs.Accepts.{accepted-out}
-use Rattle.demands.proofs.Bytes.{code-whole, step-refused, accepted-step, refusal-cases, never-one}
-use Rattle.opening.specs.Opened.{Accepted-image}
-use Rattle.opening.proofs.Promise.{accepted-image}
-use Rattle.events.specs.Stepped.{told, left, Handled, Stepped, Stepped-on}
-use Rattle.events.proofs.Handles.{handled-refused}
+use Rattle.keeping.proofs.Bytes.{code-whole, step-refused, accepted-step, refusal-cases, never-one}
+use Rattle.rules.specs.AcceptedImage.{Accepted-image}
+use Rattle.rules.proofs.Promise.{accepted-image}
+use Rattle.events.specs.Stepped.{Stepped, Stepped-accepted}
+use Rattle.handling.specs.Handled.{told, left, Handled}
+use Rattle.handling.proofs.Handles.{handled-refused}
 
 -- ---- the kind and the actor
 
@@ -41,28 +42,27 @@ module _ (v : List ℕ) {e : Event} (q : e ≡ event-read v 0) where
   pub low-actor : {n : ℕ} → n ≡ event-read v 0 .actor → n ≤ 4 → e .actor < 5
   low-actor a h = let b = ap (λ e. e .actor) q in omega arith
 
-  pub read-of-kind : (l : List ℕ) (k : ℕ) {n : ℕ} (r : Answer) (l′ : List ℕ) → n ≡ event-read v 0 .kind → n ≡ k → Handled l (with-kind k e) r l′ → Handled l (event-read v 0) r l′
-  read-of-kind l k r l′ i h d = subst (λ e. Handled l e r l′) q (of-its-kind l e k r l′ (ap (λ e. e .kind) q ∙ sym i ∙ h) d)
+  pub read-of-kind : {l : List ℕ} (k : ℕ) {n : ℕ} {r : Answer} {l′ : List ℕ} → n ≡ event-read v 0 .kind → n ≡ k
+      → Handled l (with-kind k e) r l′ → Handled l (event-read v 0) r l′
+  read-of-kind {l} k {n} {r} {l′} i h d = subst (λ e. Handled l e r l′) q (of-its-kind l e k r l′ (ap (λ e. e .kind) q ∙ sym i ∙ h) d)
+
+-- n is none of the numbers
+abbrev pub None-of : ℕ → List ℕ → Type 0
+None-of n [] = Unit {0}
+None-of n (k ∷ l) = None-of n l × (n ≢ k)
+
+-- the numbers from m down to 1
+abbrev pub down-from : ℕ → List ℕ
+down-from zero = []
+down-from (suc m) = suc m ∷ down-from m
+
+above : (n m : ℕ) → n ≢ 0 → None-of n (down-from m) → m < n
+above n zero z h = omega arith
+above n (suc m) z h = let r = above n m z (h .0) in let d = h .1 in omega arith
 
 -- no kind but 1 to 15 has a form
-no-kind : (k : ℕ) → k ≢ 1 → k ≢ 2 → k ≢ 3 → k ≢ 4 → k ≢ 5 → k ≢ 6 → k ≢ 7 → k ≢ 8 → k ≢ 9 → k ≢ 10 → k ≢ 11 → k ≢ 12 → k ≢ 13 → k ≢ 14 → k ≢ 15 → getD forms k no-form ≡ no-form
-no-kind zero n1 n2 n3 n4 n5 n6 n7 n8 n9 n10 n11 n12 n13 n14 n15 = refl
-no-kind (suc zero) n1 n2 n3 n4 n5 n6 n7 n8 n9 n10 n11 n12 n13 n14 n15 = absurd (n1 refl)
-no-kind (suc (suc zero)) n1 n2 n3 n4 n5 n6 n7 n8 n9 n10 n11 n12 n13 n14 n15 = absurd (n2 refl)
-no-kind (suc (suc (suc zero))) n1 n2 n3 n4 n5 n6 n7 n8 n9 n10 n11 n12 n13 n14 n15 = absurd (n3 refl)
-no-kind (suc (suc (suc (suc zero)))) n1 n2 n3 n4 n5 n6 n7 n8 n9 n10 n11 n12 n13 n14 n15 = absurd (n4 refl)
-no-kind (suc (suc (suc (suc (suc zero))))) n1 n2 n3 n4 n5 n6 n7 n8 n9 n10 n11 n12 n13 n14 n15 = absurd (n5 refl)
-no-kind (suc (suc (suc (suc (suc (suc zero)))))) n1 n2 n3 n4 n5 n6 n7 n8 n9 n10 n11 n12 n13 n14 n15 = absurd (n6 refl)
-no-kind (suc (suc (suc (suc (suc (suc (suc zero))))))) n1 n2 n3 n4 n5 n6 n7 n8 n9 n10 n11 n12 n13 n14 n15 = absurd (n7 refl)
-no-kind (suc (suc (suc (suc (suc (suc (suc (suc zero)))))))) n1 n2 n3 n4 n5 n6 n7 n8 n9 n10 n11 n12 n13 n14 n15 = absurd (n8 refl)
-no-kind (suc (suc (suc (suc (suc (suc (suc (suc (suc zero))))))))) n1 n2 n3 n4 n5 n6 n7 n8 n9 n10 n11 n12 n13 n14 n15 = absurd (n9 refl)
-no-kind (suc (suc (suc (suc (suc (suc (suc (suc (suc (suc zero)))))))))) n1 n2 n3 n4 n5 n6 n7 n8 n9 n10 n11 n12 n13 n14 n15 = absurd (n10 refl)
-no-kind (suc (suc (suc (suc (suc (suc (suc (suc (suc (suc (suc zero))))))))))) n1 n2 n3 n4 n5 n6 n7 n8 n9 n10 n11 n12 n13 n14 n15 = absurd (n11 refl)
-no-kind (suc (suc (suc (suc (suc (suc (suc (suc (suc (suc (suc (suc zero)))))))))))) n1 n2 n3 n4 n5 n6 n7 n8 n9 n10 n11 n12 n13 n14 n15 = absurd (n12 refl)
-no-kind (suc (suc (suc (suc (suc (suc (suc (suc (suc (suc (suc (suc (suc zero))))))))))))) n1 n2 n3 n4 n5 n6 n7 n8 n9 n10 n11 n12 n13 n14 n15 = absurd (n13 refl)
-no-kind (suc (suc (suc (suc (suc (suc (suc (suc (suc (suc (suc (suc (suc (suc zero)))))))))))))) n1 n2 n3 n4 n5 n6 n7 n8 n9 n10 n11 n12 n13 n14 n15 = absurd (n14 refl)
-no-kind (suc (suc (suc (suc (suc (suc (suc (suc (suc (suc (suc (suc (suc (suc (suc zero))))))))))))))) n1 n2 n3 n4 n5 n6 n7 n8 n9 n10 n11 n12 n13 n14 n15 = absurd (n15 refl)
-no-kind (suc (suc (suc (suc (suc (suc (suc (suc (suc (suc (suc (suc (suc (suc (suc (suc k)))))))))))))))) n1 n2 n3 n4 n5 n6 n7 n8 n9 n10 n11 n12 n13 n14 n15 = refl
+no-kind : (k : ℕ) → None-of k (0 ∷ down-from 15) → getD forms k no-form ≡ no-form
+no-kind k h = List·getD-eq-default forms no-form {n = k} (above k 15 (h .1) (h .0))
 
 no-form-code : (p : Phone) (e : Event) → getD forms (e .kind) no-form ≡ no-form → 2 ≡ code-of p e
 unfolding code-of first malformed no-form
@@ -73,16 +73,17 @@ no-form-code p e h = let m : malformed p e ≡ true = ap (λ x. not (leb (e .act
     never false = refl
 
 -- n is the kind that was read
-pub no-such-kind : (l : List ℕ) (e : Event) (n : ℕ) → n ≡ e .kind → n ≢ 1 → n ≢ 2 → n ≢ 3 → n ≢ 4 → n ≢ 5 → n ≢ 6 → n ≢ 7 → n ≢ 8 → n ≢ 9 → n ≢ 10 → n ≢ 11 → n ≢ 12 → n ≢ 13 → n ≢ 14 → n ≢ 15 → (x : Answer) → x ≡ refused 2 → Handled l e x l
-no-such-kind l e n i n1 n2 n3 n4 n5 n6 n7 n8 n9 n10 n11 n12 n13 n14 n15 x q =
-    handled-refused l e 2 (no-form-code (decode l) e (ap (λ n. getD forms n no-form) (sym i) ∙ no-kind n n1 n2 n3 n4 n5 n6 n7 n8 n9 n10 n11 n12 n13 n14 n15)) (λ z. omega arith) x q
+module _ {l : List ℕ} {e : Event} where
+  pub no-such-kind : {n : ℕ} → n ≡ e .kind → None-of n (0 ∷ down-from 15) → {x : Answer} → x ≡ refused 2 → Handled l e x l
+  no-such-kind {n} i h =
+      handled-refused (no-form-code (decode l) e (ap (λ n. getD forms n no-form) (sym i) ∙ no-kind n h)) (λ z. omega arith)
 
-pub kind-zero : (l : List ℕ) (e : Event) (n : ℕ) → n ≡ e .kind → n ≡ 0 → (x : Answer) → x ≡ refused 2 → Handled l e x l
-kind-zero l e n i k x q = handled-refused l e 2 (no-form-code (decode l) e (ap (λ n. getD forms n no-form) (sym i ∙ k))) (λ z. omega arith) x q
+  pub kind-zero : {n : ℕ} → n ≡ e .kind → n ≡ 0 → {x : Answer} → x ≡ refused 2 → Handled l e x l
+  kind-zero i k = handled-refused (no-form-code (decode l) e (ap (λ n. getD forms n no-form) (sym i ∙ k))) (λ z. omega arith)
 
-pub no-such-actor : (l : List ℕ) (e : Event) → 4 < e .actor → (x : Answer) → x ≡ refused 2 → Handled l e x l
-unfolding code-of first malformed
-no-such-actor l e h x q = handled-refused l e 2 (rw (lt-leb (e .actor) 4 h)) (λ z. omega arith) x q
+  pub no-such-actor : 4 < e .actor → {x : Answer} → x ≡ refused 2 → Handled l e x l
+  unfolding code-of first malformed
+  no-such-actor h = handled-refused (rw (lt-leb (e .actor) 4 h)) (λ z. omega arith)
 
 -- ---- the length, and the image
 
@@ -129,7 +130,7 @@ module _ (l v : List ℕ) where
 
   module _ (a : Accepted-image l) where
     -- an event of another length
-    pub short-stepped : length v ≢ event-size → (x : Answer) → x ≡ refused 2 → Stepped-on l v x l
+    pub short-stepped : length v ≢ event-size → (x : Answer) → x ≡ refused 2 → Stepped-accepted l v x l
     unfolding code first
     short-stepped h x q =
         record {
@@ -138,7 +139,7 @@ module _ (l v : List ℕ) where
         }
 
     -- an event that was handled
-    pub handled-stepped : length v ≡ event-size → (r : Answer) (l′ : List ℕ) → Bytes l′ → Handled l (event-read v 0) r l′ → Stepped-on l v r l′
+    pub handled-stepped : length v ≡ event-size → (r : Answer) (l′ : List ℕ) → Bytes l′ → Handled l (event-read v 0) r l′ → Stepped-accepted l v r l′
     handled-stepped n r l′ b h =
         let s = whole-stepped (a .accepted) n in
         let k : l′ ≡ step l v .image = h .image ∙ sym (ap (λ o. o .image) s) in

@@ -11,7 +11,7 @@ use Rattle.records.specs.declared.Certificate.{Certificate}
 use Rattle.rules.proofs.Tests.{tests, neqb→ne, and-i, by-test}
 use Rattle.explanations.specs.Why.{lowest, by-id}
 use Rattle.explanations.specs.Claims.{count, Rising}
-use Rattle.explanations.proofs.Lowest.{cond-cases, Found, lowest-found, lowest-least}
+use Rattle.explanations.proofs.LowestId.{cond-cases, Found, lowest-found, lowest-least}
 
 -- ---- how many pass
 

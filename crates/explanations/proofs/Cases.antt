@@ -21,7 +21,7 @@ use Rattle.rules.proofs.Accepted.{Held}
 use Rattle.explanations.proofs.Reasons.{occupied}
 use Rattle.explanations.specs.Why.{Line, has-key, its-domain, unsigned-line, unheld-line, chained, unsigned, held, chain-lines, reason-lines, explained}
 use Rattle.explanations.specs.Claims.{count, cases}
-use Rattle.explanations.proofs.Lowest.{cond-cases}
+use Rattle.explanations.proofs.LowestId.{cond-cases}
 
 -- a chain's first record has its key
 chain-held : (t : Trust) {d k : ℕ} {l : List Certificate} → Chain t d k l → T (any (has-key k) (t .certificates))

@@ -21,7 +21,7 @@ use Rattle.rules.proofs.Accepted.{Held}
 use Rattle.rules.proofs.Shortest.{chains-signed, chains-chain, links-small, links-shortest, links-none}
 use Rattle.explanations.specs.Why.{lowest, climb, chain-told}
 use Rattle.explanations.specs.Claims.{Lowest-each}
-use Rattle.explanations.proofs.Lowest.{cond-cases, lowest-found, lowest-least}
+use Rattle.explanations.proofs.LowestId.{cond-cases, lowest-found, lowest-least}
 use Rattle.explanations.proofs.Reasons.{occupied}
 
 pub length-climb : (n : ℕ) (t : Trust) (d k : ℕ) → length (climb n t d k) ≡ n

@@ -13,7 +13,7 @@ use Rattle.rules.proofs.Tests.{neqb→ne}
 use Rattle.rules.proofs.Lists.{any-out}
 use Rattle.rules.proofs.Accepted.{Held}
 use Rattle.explanations.specs.Why.{has-key, holders, its-domain, untrusted-line, chained, unsigned, held, despite, chain-lines, explained}
-use Rattle.explanations.proofs.Lowest.{cond-cases}
+use Rattle.explanations.proofs.LowestId.{cond-cases}
 use Rattle.explanations.proofs.Holders.{holders-few, holders-in}
 use Rattle.explanations.proofs.Climb.{told-length}
 use Rattle.explanations.proofs.Cases.{chained-chains, explained-cases}

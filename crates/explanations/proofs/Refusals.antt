@@ -17,7 +17,7 @@ use Rattle.rules.proofs.Accepted.{Held}
 use Rattle.explanations.specs.Why.{Line, has-key, holders, its-domain, its-chain, reasons, reason, link-line, reason-line, untrusted-line}
 use Rattle.explanations.specs.Why.{chained, unsigned, held, despite, chain-lines, reason-lines, explained}
 use Rattle.explanations.specs.Claims.{Refusal}
-use Rattle.explanations.proofs.Lowest.{cond-cases}
+use Rattle.explanations.proofs.LowestId.{cond-cases}
 use Rattle.explanations.proofs.Reasons.{first-is, reason-some}
 use Rattle.explanations.proofs.Holders.{holders-out, holders-in}
 use Rattle.explanations.proofs.Cases.{explained-cases, explained-reasons}

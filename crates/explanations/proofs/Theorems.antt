@@ -13,7 +13,7 @@ use Rattle.records.specs.Sizes.{most-certificates}
 use Rattle.records.specs.Phone.{Phone, decode}
 use Rattle.records.specs.declared.Certificate.{Certificate}
 use Rattle.records.specs.declared.Executable.{Executable}
-use Rattle.records.proofs.Fields.{fields}
+use Rattle.records.proofs.FrameFacts.{fields}
 use Rattle.records.proofs.Said.{length-certificates}
 use Rattle.rules.specs.Chains.{links, most-links}
 use Rattle.rules.specs.Explicit.{Chain, Shortest, Chain-within}
@@ -26,7 +26,7 @@ use Rattle.rules.proofs.Domain.{one-domain}
 use Rattle.explanations.specs.Why.{Line, holders, its-domain, its-chain, reasons, reason, reason-line, untrusted-line, unsigned-line, unheld-line}
 use Rattle.explanations.specs.Why.{chained, unsigned, held, despite, chain-lines, reason-lines, explained, explanation}
 use Rattle.explanations.specs.Claims.{count, cases, Rising, Refusal, Lowest-each, Not-after}
-use Rattle.explanations.proofs.Lowest.{cond-cases}
+use Rattle.explanations.proofs.LowestId.{cond-cases}
 use Rattle.explanations.proofs.Refusals.{refusal-told, refusal-some, refusal-each}
 use Rattle.explanations.proofs.Holders.{holders-rising, holders-out, holders-in}
 use Rattle.explanations.proofs.Climb.{told-shortest, told-lowest}

@@ -1,17 +1,17 @@
 // Records found: a certificate or an executable by its id, a card by its number, and what the rules ask of them.
 use records::Certificate;
 use records::image;
+ghost use Prim.Native.Nat.{_≤_};
+ghost use lib.Dec.{eqb};
+ghost use lib.ListN.{length};
 ghost use mathlib.Core.Bool.{_&&_};
 ghost use mathlib.Core.Path.{_≡_};
-ghost use Prim.Native.Nat.{_+_, _≤_};
-ghost use lib.Dec.{eqb};
-ghost use lib.ListN.{length, drop};
-ghost use Rattle.records.specs.Phone.{decode};
-ghost use Rattle.records.specs.Frame.{Framed};
-ghost use Rattle.rules.specs.ImageRules.{in-card-table, known-place, operator-of, valid-in, has-valid-operator};
-ghost use Rattle.rules.specs.Codes.{has-id, is-executable};
-ghost use Rattle.lookup.specs.Places.{in-another, executable-room, certificate-room};
+ghost use Rattle.lookup.specs.RoomForOne.{Passed, certificate-room, executable-room, in-another};
 ghost use Rattle.rules.specs.Words.{first-place};
+ghost use Rattle.records.specs.Frame.{Framed};
+ghost use Rattle.records.specs.Phone.{decode};
+ghost use Rattle.rules.specs.Codes.{has-id, is-executable};
+ghost use Rattle.rules.specs.ImageRules.{has-valid-operator, in-card-table, known-place, operator-of, valid-in};
 
 // The slot of the certificate with this id, or the number of slots where there is none. Id 0 finds the lowest free slot.
 pub fn certificate_slot(s: &[u8], id: u16) -> usize
@@ -33,7 +33,7 @@ pub fn certificate_slot(s: &[u8], id: u16) -> usize
 fn executable_from(s: &[u8], id: u16, from: usize) -> usize
     requires { ⌜ Framed (now s) ⌝ }
     requires { ⌜ from ≤ length (decode (now s) .executables) ⌝ }
-    requires { ⌜ first-place (is-executable id) (decode (now s) .executables) ≡ from + first-place (is-executable id) (drop from (decode (now s) .executables)) ⌝ }
+    requires { ⌜ Passed (is-executable id) (decode (now s) .executables) from ⌝ }
     ensures { λ r. ⌜ r ≡ first-place (is-executable id) (decode (now (s .entry)) .executables) ⌝ }
 {
     let slots = image::executable_slots(s);
@@ -196,18 +196,11 @@ pub fn operator_of(s: &[u8], n: u16) -> u32
     0
 }
 
-// A valid root of domain d.
-pub fn valid_in(d: u8, clock: u32, c: Certificate) -> bool
-    ensures { λ r. ⌜ r ≡ valid-in d clock c ⌝ }
-{
-    chain::valid_root(clock, c) & (c.domain == d)
-}
-
 // A valid operator root in a place. Most records are none, so that is asked first.
 fn valid_operator(clock: u32, place: u16, c: Certificate) -> bool
     ensures { λ r. ⌜ r ≡ (valid-in 1 clock c && eqb (c .place) place) ⌝ }
 {
-    if !valid_in(1, clock, c) {
+    if !terms::valid_in(records::OPERATOR, clock, c) {
         return false;
     }
     c.place == place

@@ -27,11 +27,11 @@ use Rattle.rules.proofs.Accepted.{Accepted}
 use Rattle.rules.proofs.Accepts.{accepted-out}
 use Rattle.rules.proofs.Shortest.{links-small}
 use Rattle.rules.proofs.Where.{accepted-no-fault, rule-known, offset-small}
-use Rattle.demands.specs.Runs.{event-of}
-use Rattle.demands.proofs.Bytes.{step-cases, step-refused, refusal-cases, code-whole-out}
-use Rattle.demands.proofs.Kept.{accepted-changed}
-use Rattle.demands.proofs.Answers.{zero-if}
-use Rattle.demands.proofs.Grant.{small-domain}
+use Rattle.keeping.specs.OneEvent.{event-of}
+use Rattle.keeping.proofs.Bytes.{step-cases, step-refused, refusal-cases, code-whole-out}
+use Rattle.keeping.proofs.AcceptedKept.{accepted-changed}
+use Rattle.keeping.proofs.EventAnswers.{zero-if}
+use Rattle.keeping.proofs.Naming.{small-domain}
 use Rattle.monitor.specs.Told.{packed, opened, told-code, told-domain, told-links, told-rule, told-offset}
 use Rattle.monitor.specs.Told.{answer-size, answer-bytes, answer-from, answer-at, events-of}
 

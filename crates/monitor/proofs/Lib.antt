@@ -1,4 +1,4 @@
-mod Runs
-mod Answers
-mod Lines
 pub mod Theorems
+pub mod Answers
+pub mod AnswerLines
+pub mod RunLaws

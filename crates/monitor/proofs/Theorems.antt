@@ -11,7 +11,7 @@ use mathlib.Core.Path.{_≡_, refl, sym, ap, _∙_}
 use native.Mathlib.Omega.{arith}
 use lib.ListN.{length, getD, take, drop}
 use Rattle.octets.specs.Octets.{bytes}
-use Rattle.octets.proofs.Laws.{getD-put-after}
+use Rattle.octets.proofs.ByteLaws.{getD-put-after}
 use Rattle.records.specs.Sizes.{event-size}
 use Rattle.records.specs.Phone.{decode, joined}
 use Rattle.records.proofs.Joined.{length-joined}
@@ -21,16 +21,16 @@ use Rattle.rules.specs.Faults.{fault, fault-offset}
 use Rattle.rules.specs.Codes.{code}
 use Rattle.rules.specs.Step.{refused, step, run, answers}
 use Rattle.rules.proofs.Where.{no-fault-accepted, rule-known}
-use Rattle.demands.proofs.Answers.{answer-code, told-where, told-no-fault}
+use Rattle.keeping.proofs.EventAnswers.{answer-code, told-where, told-no-fault}
 use Rattle.explanations.specs.Why.{said-link, line, explanation}
 use Rattle.reasons.specs.Lines.{line-size, most-lines, with-lines, why-code, lines-of}
 use Rattle.reasons.proofs.Room.{lines-few, lines-some}
 use Rattle.monitor.specs.Told.{packed, opened, told-code, told-domain, told-links, told-rule, told-offset, Stepped}
 use Rattle.monitor.specs.Told.{answer-size, answer-bytes, answer-at, events-of, event-count, answered, Ran}
 use Rattle.monitor.specs.Told.{why-packed, told-lines, line-at, Asked}
-use Rattle.monitor.proofs.Runs.{counted, answered-room}
+use Rattle.monitor.proofs.RunLaws.{counted, answered-room}
 use Rattle.monitor.proofs.Answers as Answers
-use Rattle.monitor.proofs.Lines as Lines
+use Rattle.monitor.proofs.AnswerLines as Lines
 
 -- ==== the number that monitor_open and monitor_step answer
 

@@ -8,8 +8,8 @@ ghost use lib.ListN.{length, take, drop, replicate};
 ghost use Rattle.octets.specs.Octets.{put};
 ghost use Rattle.records.specs.Sizes.{event-size};
 ghost use Rattle.records.specs.Phone.{joined};
-ghost use Rattle.opening.specs.Opened.{Accepted-image};
-ghost use Rattle.events.specs.Stepped.{Stepped-on};
+ghost use Rattle.rules.specs.AcceptedImage.{Accepted-image};
+ghost use Rattle.events.specs.Stepped.{Stepped-accepted};
 ghost use Rattle.reasons.specs.Lines.{most-lines};
 ghost use Rattle.monitor.specs.Told.{packed, opened, Stepped, answer-size, answer-bytes, event-count, answered, Followed, Ran};
 ghost use Rattle.monitor.specs.Told.{why-packed, Asked};
@@ -86,13 +86,13 @@ fn tell(answers: &mut [u8], i: usize, a: Answer)
 fn one(image: &mut [u8], events: &[u8], i: usize) -> Answer
     requires { ⌜ Accepted-image (now image) ⌝ }
     requires { ⌜ i * event-size ≤ length (now events) ⌝ }
-    ensures { λ r. ⌜ Stepped-on (now (image .entry)) (take event-size (drop (i * event-size) (now (events .entry)))) r (now (image .exit)) ⌝ }
+    ensures { λ r. ⌜ Stepped-accepted (now (image .entry)) (take event-size (drop (i * event-size) (now (events .entry)))) r (now (image .exit)) ⌝ }
 {
     let at = i * Event::SIZE;
     if events.len() - at < Event::SIZE {
-        return events::step_on(image, &events[at..]);
+        return events::step_accepted(image, &events[at..]);
     }
-    events::step_on(image, &events[at..at + Event::SIZE])
+    events::step_accepted(image, &events[at..at + Event::SIZE])
 }
 
 fn follow(image: &mut [u8], events: &[u8], answers: &mut [u8], n: usize)

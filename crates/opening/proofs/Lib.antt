@@ -1,5 +1,3 @@
-pub mod Domains
-pub mod Parts
-pub mod Promise
-pub mod Answers
+pub mod ByParts
+pub mod Opens
 pub mod Offsets

@@ -4,7 +4,7 @@ use mathlib.Core.List.{List}
 use mathlib.Core.Bool.{true}
 use mathlib.Core.Path.{_≡_, sym, ap, ap₂, _∙_, subst}
 use lib.ListN.{length}
-use Rattle.octets.proofs.Laws.{Bytes}
+use Rattle.octets.proofs.ByteLaws.{Bytes}
 use Rattle.records.specs.Sizes.{header-size}
 use Rattle.records.specs.Phone.{decode}
 use Rattle.records.specs.Frame.{framed, Framed}
@@ -14,7 +14,7 @@ use Rattle.rules.specs.declared.Site.{Site}
 use Rattle.rules.specs.declared.Fault.{Fault}
 use Rattle.rules.specs.Faults.{offset-of, fault, fault-offset}
 use Rattle.rules.specs.Step.{refused-at}
-use Rattle.rules.specs.Named.{Within}
+use Rattle.rules.specs.FaultNames.{Within}
 use Rattle.rules.proofs.Where.{fault-within}
 
 -- f is the fault of l, and s where it is

@@ -1,22 +1,14 @@
--- What opening an image tells, and what is known of an accepted one. Definitions only.
-use Prim.Native.Nat.{ℕ, _≤_}
+-- What opening an image tells. Definitions only.
+use Prim.Native.Nat.{ℕ}
 use mathlib.Core.Bool.{true}
 use mathlib.Core.List.{List}
 use mathlib.Core.Path.{_≡_}
-use Rattle.records.specs.Phone.{decode, certificate-at, executable-at}
-use Rattle.records.specs.Frame.{framed, Framed}
-use Rattle.rules.specs.ImageRules.{i2, i3, i4, i5, accepted}
+use Rattle.records.specs.Phone.{decode}
+use Rattle.records.specs.Frame.{framed}
+use Rattle.rules.specs.ImageRules.{i2, i3, i4, i5}
 use Rattle.rules.specs.Faults.{fault}
 use Rattle.rules.specs.declared.Fault.{Fault}
-use Rattle.chain.specs.Keys.{Keyed}
-
--- an accepted image, with what code asks of one: its frame, one domain for a key, and domains that a table of four has room for
-pub record Accepted-image (l : List ℕ) : Type 0 where
-  pub accepted : accepted l ≡ true
-  pub framed : Framed l
-  pub keyed : Keyed (decode l .trust)
-  pub certificate-domains : (i : ℕ) → certificate-at (decode l) i .domain ≤ 3
-  pub executable-domains : (i : ℕ) → executable-at (decode l) i .domain ≤ 3
+use Rattle.rules.specs.AcceptedImage.{Accepted-image}
 
 -- "Opening an image .. should also tell the first broken rule, 1 to 8, and a byte offset"
 pub record Opened (l : List ℕ) (r : Fault) : Type 0 where

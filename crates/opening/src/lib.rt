@@ -8,7 +8,6 @@ use rules::Fault;
 use rules::Site;
 ghost use mathlib.Core.Bool.{true, cond};
 ghost use mathlib.Core.Path.{_≡_};
-ghost use Prim.Native.Nat.{min};
 ghost use lib.Dec.{T, ltb};
 ghost use lib.ListN.{length};
 ghost use Rattle.records.specs.Phone.{decode};
@@ -17,17 +16,7 @@ ghost use Rattle.rules.specs.Words.{all};
 ghost use Rattle.rules.specs.ImageRules.{row-fits, i2, i3, i4, i5, i6, i7, i8};
 ghost use Rattle.rules.specs.Faults.{lowest, certificate-site, executable-site, i3-site, no-fault, at-rule, fault, fault-offset};
 ghost use Rattle.rules.specs.Step.{refused-at};
-ghost use Rattle.chain.specs.Keys.{chained-in};
 ghost use Rattle.opening.specs.Opened.{Kept, Opened};
-
-fn least(a: usize, b: usize) -> usize
-    ensures { λ r. ⌜ r ≡ min a b ⌝ }
-{
-    if a < b {
-        return a;
-    }
-    b
-}
 
 // ---- a record that breaks a rule, if there is one
 
@@ -147,24 +136,12 @@ fn i7(s: &[u8]) -> Fault
     at_executable(s, 7, sweeps::i7(s))
 }
 
-// The lowest executable of a domain that does not chain to it.
-fn domain_chained(s: &[u8], domain: u8) -> usize
-    requires { ⌜ Framed (now s) ⌝ }
-    ensures { λ r. ⌜ r ≡ lowest (all (chained-in domain (decode (now (s .entry)) .trust))) (decode (now (s .entry)) .executables) ⌝ }
-{
-    sweeps::chained(s, domain, chain::good_slots(s, domain))
-}
-
-// By domains, of which I7 allows 1 to 3.
 fn i8(s: &[u8]) -> Fault
     requires { ⌜ Framed (now s) ⌝ }
     requires { ⌜ T (i7 (decode (now s))) ⌝ }
     ensures { λ r. ⌜ r ≡ cond (i8 (decode (now (s .entry)))) no-fault (at-rule 8 (executable-site i8 (decode (now (s .entry))))) ⌝ }
 {
-    let operator = domain_chained(s, 1);
-    let manufacturer = domain_chained(s, 2);
-    let third = domain_chained(s, 3);
-    at_executable(s, 8, least(least(operator, manufacturer), third))
+    at_executable(s, 8, chain::first_unchained(s))
 }
 
 // ---- all of them

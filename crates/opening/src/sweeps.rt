@@ -10,9 +10,9 @@ ghost use Rattle.records.specs.Frame.{Framed};
 ghost use Rattle.rules.specs.Words.{all};
 ghost use Rattle.rules.specs.ImageRules.{valid-in, known-place, key-of-one-domain, card-owns, one-in-place, one-manufacturer, row-fits, i4, i5, i7};
 ghost use Rattle.rules.specs.ImageRules.{slot-fits, cards-fit, not-both, owned-by-card};
-ghost use Rattle.rules.specs.Parts.{apart, card-with, i4-with, i5-pair, i5-with, program-with};
+ghost use Rattle.rules.specs.Parts.{apart, card-with, i5-pair, executable-with};
+ghost use Rattle.opening.specs.Lower.{i4-at, i5-at, i5-pairs};
 ghost use Rattle.rules.specs.Faults.{lowest, of-certificates, of-executables};
-ghost use Rattle.chain.specs.Keys.{good-slots, chained-in};
 
 // ---- I2 Certificate
 
@@ -23,7 +23,7 @@ pub fn slots_fit(s: &[u8]) -> usize
     let slots = image::certificate_slots(s);
     let mut i: usize = 0;
     while i < slots {
-        if !forms::slot_fits(image::certificate(s, i)) {
+        if !terms::slot_fits(image::certificate(s, i)) {
             return i;
         }
         i += 1;
@@ -57,7 +57,7 @@ fn number_apart(s: &[u8], i: usize) -> bool
     let k = image::card(s, i);
     let mut j: usize = 0;
     while j < i {
-        if !forms::apart(k.number, image::card(s, j).number) {
+        if !terms::apart(k.number, image::card(s, j).number) {
             return false;
         }
         j += 1;
@@ -70,7 +70,7 @@ fn card_with(s: &[u8], i: usize) -> bool
     requires { ⌜ i < length (decode (now s) .cards) ⌝ }
     ensures { λ r. ⌜ r ≡ card-with (take i (decode (now (s .entry)) .cards)) (card-at (decode (now (s .entry))) i) ⌝ }
 {
-    forms::card_fits(image::card(s, i)) & number_apart(s, i)
+    terms::card_fits(image::card(s, i)) & number_apart(s, i)
 }
 
 pub fn cards(s: &[u8]) -> usize
@@ -119,7 +119,7 @@ fn key_apart(s: &[u8], i: usize) -> bool
     let c = image::certificate(s, i);
     let mut j: usize = 0;
     while j < i {
-        if !forms::key_of_one_domain(c, image::certificate(s, j)) {
+        if !terms::key_of_one_domain(c, image::certificate(s, j)) {
             return false;
         }
         j += 1;
@@ -131,7 +131,7 @@ fn card_owns(s: &[u8], c: Certificate) -> bool
     requires { ⌜ Framed (now s) ⌝ }
     ensures { λ r. ⌜ r ≡ card-owns (decode (now (s .entry)) .cards) c ⌝ }
 {
-    if (c.kind == 0) & (c.domain == 1) & (c.place != 0) {
+    if terms::on_a_card(c) {
         return c.owner == lookup::operator_of(s, c.place);
     }
     true
@@ -140,7 +140,7 @@ fn card_owns(s: &[u8], c: Certificate) -> bool
 fn i4_with(s: &[u8], i: usize) -> bool
     requires { ⌜ Framed (now s) ⌝ }
     requires { ⌜ i < length (decode (now s) .trust .certificates) ⌝ }
-    ensures { λ r. ⌜ r ≡ i4-with (decode (now (s .entry)) .cards) (take i (decode (now (s .entry)) .trust .certificates)) (certificate-at (decode (now (s .entry))) i) ⌝ }
+    ensures { λ r. ⌜ r ≡ i4-at (decode (now (s .entry))) i ⌝ }
 {
     card_owns(s, image::certificate(s, i)) & id_apart(s, i) & key_apart(s, i)
 }
@@ -165,7 +165,9 @@ pub fn i4(s: &[u8]) -> usize
 fn one_in_place(clock: u32, c: Certificate, e: Certificate) -> bool
     ensures { λ r. ⌜ r ≡ one-in-place clock c e ⌝ }
 {
-    !(lookup::valid_in(1, clock, c) & lookup::valid_in(1, clock, e) & (c.place == e.place))
+    !(terms::valid_in(records::OPERATOR, clock, c)
+        & terms::valid_in(records::OPERATOR, clock, e)
+        & (c.place == e.place))
         | (c.id == e.id)
 }
 
@@ -176,8 +178,8 @@ fn not_both(s: &[u8], c: Certificate, e: Certificate) -> bool
 {
     let clock = image::clock(s);
     let card = image::card_present(s);
-    !(lookup::valid_in(1, clock, c)
-        & lookup::valid_in(1, clock, e)
+    !(terms::valid_in(records::OPERATOR, clock, c)
+        & terms::valid_in(records::OPERATOR, clock, e)
         & (c.place == 0)
         & (e.place == card))
         | (card == 0)
@@ -193,7 +195,9 @@ fn neither_way(s: &[u8], c: Certificate, e: Certificate) -> bool
 fn one_manufacturer(clock: u32, c: Certificate, e: Certificate) -> bool
     ensures { λ r. ⌜ r ≡ one-manufacturer clock c e ⌝ }
 {
-    !(lookup::valid_in(2, clock, c) & lookup::valid_in(2, clock, e)) | (c.id == e.id)
+    !(terms::valid_in(records::MANUFACTURER, clock, c)
+        & terms::valid_in(records::MANUFACTURER, clock, e))
+        | (c.id == e.id)
 }
 
 fn i5_pair(s: &[u8], c: Certificate, e: Certificate) -> bool
@@ -208,7 +212,7 @@ fn i5_pair(s: &[u8], c: Certificate, e: Certificate) -> bool
 fn i5_below(s: &[u8], i: usize) -> bool
     requires { ⌜ Framed (now s) ⌝ }
     requires { ⌜ i < length (decode (now s) .trust .certificates) ⌝ }
-    ensures { λ r. ⌜ r ≡ all (i5-pair (decode (now (s .entry)) .trust .seen) (certificate-at (decode (now (s .entry))) i)) (take i (decode (now (s .entry)) .trust .certificates)) ⌝ }
+    ensures { λ r. ⌜ r ≡ i5-pairs (decode (now (s .entry))) i ⌝ }
 {
     let c = image::certificate(s, i);
     let mut j: usize = 0;
@@ -226,7 +230,7 @@ fn owned_by_card(s: &[u8], c: Certificate) -> bool
     ensures { λ r. ⌜ r ≡ owned-by-card (decode (now (s .entry)) .cards) (decode (now (s .entry)) .trust .seen) c ⌝ }
 {
     let card = image::card_present(s);
-    if lookup::valid_in(1, image::clock(s), c) & (c.place == 0) & (card != 0) {
+    if terms::valid_in(records::OPERATOR, image::clock(s), c) & (c.place == 0) & (card != 0) {
         return c.owner == lookup::operator_of(s, card);
     }
     true
@@ -238,13 +242,13 @@ fn is_asked(s: &[u8], c: Certificate) -> bool
     ensures { λ r. ⌜ r ≡ (valid-in 1 (decode (now (s .entry)) .trust .seen .clock) c || valid-in 2 (decode (now (s .entry)) .trust .seen .clock) c) ⌝ }
 {
     let clock = image::clock(s);
-    lookup::valid_in(1, clock, c) | lookup::valid_in(2, clock, c)
+    terms::valid_in(records::OPERATOR, clock, c) | terms::valid_in(records::MANUFACTURER, clock, c)
 }
 
 fn i5_with(s: &[u8], i: usize) -> bool
     requires { ⌜ Framed (now s) ⌝ }
     requires { ⌜ i < length (decode (now s) .trust .certificates) ⌝ }
-    ensures { λ r. ⌜ r ≡ i5-with (decode (now (s .entry)) .cards) (decode (now (s .entry)) .trust .seen) (take i (decode (now (s .entry)) .trust .certificates)) (certificate-at (decode (now (s .entry))) i) ⌝ }
+    ensures { λ r. ⌜ r ≡ i5-at (decode (now (s .entry))) i ⌝ }
 {
     let c = image::certificate(s, i);
     if !is_asked(s, c) {
@@ -277,7 +281,7 @@ pub fn rows_fit(s: &[u8]) -> usize
     let actions = image::action_count(s);
     let mut i: usize = 0;
     while i < actions {
-        if !forms::row_fits(image::row(s, i)) {
+        if !terms::row_fits(image::row(s, i)) {
             return i;
         }
         i += 1;
@@ -288,7 +292,7 @@ pub fn rows_fit(s: &[u8]) -> usize
 // ---- I7 Executable
 
 // Whether no executable below executable i has its id.
-fn program_apart(s: &[u8], i: usize) -> bool
+fn executable_apart(s: &[u8], i: usize) -> bool
     requires { ⌜ Framed (now s) ⌝ }
     requires { ⌜ i < length (decode (now s) .executables) ⌝ }
     ensures { λ r. ⌜ r ≡ all (λ y. apart (executable-at (decode (now (s .entry))) i .id) (y .id)) (take i (decode (now (s .entry)) .executables)) ⌝ }
@@ -307,12 +311,12 @@ fn program_apart(s: &[u8], i: usize) -> bool
     true
 }
 
-fn program_with(s: &[u8], actions: usize, i: usize) -> bool
+fn executable_with(s: &[u8], actions: usize, i: usize) -> bool
     requires { ⌜ Framed (now s) ⌝ }
     requires { ⌜ (i < length (decode (now s) .executables)) × (actions ≤ 32) ⌝ }
-    ensures { λ r. ⌜ r ≡ program-with actions (take i (decode (now (s .entry)) .executables)) (executable-at (decode (now (s .entry))) i) ⌝ }
+    ensures { λ r. ⌜ r ≡ executable-with actions (take i (decode (now (s .entry)) .executables)) (executable-at (decode (now (s .entry))) i) ⌝ }
 {
-    forms::program_fits(actions, image::executable(s, i)) & program_apart(s, i)
+    terms::executable_slot_fits(actions, image::executable(s, i)) & executable_apart(s, i)
 }
 
 pub fn i7(s: &[u8]) -> usize
@@ -323,26 +327,7 @@ pub fn i7(s: &[u8]) -> usize
     let slots = image::executable_slots(s);
     let mut i: usize = 0;
     while i < slots {
-        if !program_with(s, actions, i) {
-            return i;
-        }
-        i += 1;
-    }
-    slots
-}
-
-// ---- I8
-
-// Those of one domain, by the slots that are good there.
-pub fn chained(s: &[u8], domain: u8, good: u64) -> usize
-    requires { ⌜ Framed (now s) ⌝ }
-    requires { ⌜ good ≡ good-slots (decode (now s) .trust) domain ⌝ }
-    ensures { λ r. ⌜ r ≡ lowest (all (chained-in domain (decode (now (s .entry)) .trust))) (decode (now (s .entry)) .executables) ⌝ }
-{
-    let slots = image::executable_slots(s);
-    let mut i: usize = 0;
-    while i < slots {
-        if !chain::is_chained(s, domain, good, image::executable(s, i)) {
+        if !executable_with(s, actions, i) {
             return i;
         }
         i += 1;

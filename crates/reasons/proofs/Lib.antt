@@ -1,6 +1,7 @@
 pub mod Rows
 pub mod Sweeps
-pub mod Lines
-pub mod Holders
+pub mod LinesPlaced
+pub mod HolderLines
 pub mod Whole
 pub mod Room
+pub mod FirstDomain

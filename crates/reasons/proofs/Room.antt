@@ -10,7 +10,7 @@ use lib.Dec.{eqb}
 use lib.ListN.{length, getD, take, drop, set}
 use lib.Seq.{take-nil, take-all, take-suc, take-append-add, take-append-le, length-take-le}
 use Rattle.octets.specs.Octets.{put}
-use Rattle.octets.proofs.Laws.{put-more}
+use Rattle.octets.proofs.ByteLaws.{put-more}
 use Rattle.records.specs.Phone.{decode, joined}
 use Rattle.records.proofs.Joined.{length-joined}
 use Rattle.rules.specs.Words.{_⇒_, first}

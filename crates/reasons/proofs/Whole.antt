@@ -9,7 +9,7 @@ use borrow.Author.Tests.{eq-eqb, ne-eqb, not-false}
 use lib.Dec.{eqb, eqb→eq}
 use lib.ListN.{length, length-append, getD}
 use Rattle.octets.specs.Octets.{put}
-use Rattle.octets.proofs.Laws.{put-none}
+use Rattle.octets.proofs.ByteLaws.{put-none}
 use Rattle.records.specs.Phone.{Trust, decode, no-executable}
 use Rattle.records.specs.declared.Executable.{Executable}
 use Rattle.rules.specs.declared.Chained.{Chained}
@@ -26,14 +26,14 @@ use Rattle.rules.proofs.Tests.{eq→eqb, ne→neqb, not-intro}
 use Rattle.rules.proofs.Accepts.{true-T}
 use Rattle.rules.proofs.Shortest.{links-small}
 use Rattle.rules.proofs.Places.{place-none, place-some, place-named}
-use Rattle.opening.specs.Opened.{Accepted-image}
+use Rattle.rules.specs.AcceptedImage.{Accepted-image}
 use Rattle.explanations.specs.Why.{Line, has-key, chain-told, unsigned-line, unheld-line, untrusted-line}
 use Rattle.explanations.specs.Why.{chained, unsigned, held, despite, explained, explanation}
 use Rattle.explanations.proofs.Cases.{explained-chain, explained-unsigned, explained-unheld, explained-reasons}
 use Rattle.reasons.specs.declared.Why.{Why}
 use Rattle.reasons.specs.Lines.{line-size, line-bytes, climbed-lines, holder-lines, with-lines, Told, why-code, lines-of, Whole}
 use Rattle.reasons.proofs.Rows.{takes, skips, ends, not-is}
-use Rattle.reasons.proofs.Lines.{length-chain, line-more}
+use Rattle.reasons.proofs.LinesPlaced.{length-chain, line-more}
 
 -- ---- a chain, and what may follow it
 

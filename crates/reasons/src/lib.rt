@@ -5,6 +5,7 @@ use records::Certificate;
 use records::Executable;
 use records::image;
 use rules::Answer;
+use rules::Chained;
 ghost use mathlib.Core.List.{[], _∷_, _++_};
 ghost use mathlib.Core.Path.{_≡_};
 ghost use Prim.Native.Nat.{_+_, _*_, _≤_, _<_, min};
@@ -12,9 +13,8 @@ ghost use lib.ListN.{length, take};
 ghost use Rattle.octets.specs.Octets.{put};
 ghost use Rattle.records.specs.Phone.{decode};
 ghost use Rattle.records.specs.Frame.{Framed};
-ghost use Rattle.rules.specs.Chains.{most-links};
-ghost use Rattle.chain.specs.Keys.{Keyed};
-ghost use Rattle.opening.specs.Opened.{Accepted-image};
+ghost use Rattle.rules.specs.Chains.{most-links, chain-of};
+ghost use Rattle.rules.specs.AcceptedImage.{Keyed, Accepted-image};
 ghost use Rattle.explanations.specs.Why.{line, reason, despite, explained};
 ghost use Rattle.reasons.specs.Lines.{line-size, line-bytes, most-lines, climbed-lines, holder-lines, with-lines, Told, Whole, Explained};
 
@@ -60,7 +60,7 @@ pub fn reason(s: &[u8], c: Certificate) -> u8
     requires { ⌜ Framed (now s) ⌝ }
     ensures { λ r. ⌜ r ≡ reason (decode (now (s .entry)) .trust) c ⌝ }
 {
-    if !chain::is_present(s, c) {
+    if !terms::is_present(s, c) {
         return ABSENT;
     }
     if c.mark == 0 {
@@ -155,6 +155,36 @@ fn tell_one(what: u8, id: u16, lines: &mut [u8]) -> usize
     1
 }
 
+// What a key chains to. Each domain is asked, where `chain::chain_of` asks the key's own alone: a step is then the only one that
+// calls it, and keeps its stack small.
+fn chain_of(s: &[u8], key: u32) -> Chained
+    requires { ⌜ Framed (now s) ⌝ }
+    ensures { λ r. ⌜ r ≡ chain-of (decode (now (s .entry)) .trust) key ⌝ }
+{
+    if key == 0 {
+        return chained(records::UNTRUSTED, 0);
+    }
+    let operator = chain::links_of(s, key, records::OPERATOR);
+    if operator != 0 {
+        return chained(records::OPERATOR, operator);
+    }
+    let manufacturer = chain::links_of(s, key, records::MANUFACTURER);
+    if manufacturer != 0 {
+        return chained(records::MANUFACTURER, manufacturer);
+    }
+    let third = chain::links_of(s, key, records::THIRD_PARTY);
+    if third != 0 {
+        return chained(records::THIRD_PARTY, third);
+    }
+    chained(records::UNTRUSTED, 0)
+}
+
+fn chained(domain: u8, links: u8) -> Chained
+    ensures { λ r. ⌜ r ≡ record { domain = domain; links = links } ⌝ }
+{
+    Chained { domain, links }
+}
+
 // The explanation of an executable, for an image that is accepted.
 fn explain_on(s: &[u8], x: Executable, lines: &mut [u8]) -> usize
     requires { ⌜ Framed (now s) ⌝ }
@@ -162,7 +192,7 @@ fn explain_on(s: &[u8], x: Executable, lines: &mut [u8]) -> usize
     requires { ⌜ most-lines * line-size ≤ length (now lines) ⌝ }
     ensures { λ r. ⌜ Told (explained (decode (now (s .entry)) .trust) x) (now (lines .entry)) r (now (lines .exit)) ⌝ }
 {
-    let c = chain::chain_of(s, x.signing);
+    let c = chain_of(s, x.signing);
     if c.domain != 0 {
         return tell_chained(s, x, c.links, c.domain, lines);
     }

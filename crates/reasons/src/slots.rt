@@ -120,5 +120,5 @@ pub fn is_current(s: &[u8], c: Certificate) -> bool
     requires { ⌜ Framed (now s) ⌝ }
     ensures { λ r. ⌜ r ≡ in-date (decode (now (s .entry)) .trust .seen .clock) c ⌝ }
 {
-    chain::in_date(image::clock(s), c)
+    terms::in_date(image::clock(s), c)
 }

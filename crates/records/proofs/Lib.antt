@@ -1,9 +1,9 @@
 pub mod Puts
 pub mod Joined
 pub mod Records
-pub mod Parts
+pub mod ImageParts
 pub mod Said
-pub mod Fields
+pub mod FrameFacts
 pub mod RoundTrip
-pub mod Writes
+pub mod FramedWrites
 pub mod Wrong

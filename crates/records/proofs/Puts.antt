@@ -7,7 +7,7 @@ use native.Mathlib.Omega.{arith}
 use lib.ListN.{length, take, drop, length-append}
 use lib.Seq.{length-take-le, take-append-add, drop-append-add, take-append-le, drop-append-le, drop-drop}
 use Rattle.octets.specs.Octets.{put}
-use Rattle.octets.proofs.Laws.{put-none, length-put}
+use Rattle.octets.proofs.ByteLaws.{put-none, length-put}
 use Rattle.records.specs.Phone.{joined}
 
 -- ---- within one part

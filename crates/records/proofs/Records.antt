@@ -6,7 +6,7 @@ use native.Mathlib.Nat.{add-zero, add-assoc}
 use native.Mathlib.Omega.{arith}
 use lib.ListN.{length, getD, take, drop}
 use Rattle.octets.specs.Octets.{be, be8}
-use Rattle.octets.proofs.Laws.{be-skip, join, high, low, Bytes}
+use Rattle.octets.proofs.ByteLaws.{be-skip, join, high, low, Bytes}
 use Rattle.records.specs.declared.Certificate.{Certificate}
 use Rattle.records.specs.declared.Card.{Card}
 use Rattle.records.specs.declared.Executable.{Executable}

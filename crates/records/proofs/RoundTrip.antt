@@ -7,7 +7,7 @@ use native.Mathlib.Omega.{arith}
 use lib.ListN.{length, take, drop, length-append, take-append-drop, drop-of-length-le}
 use lib.Seq.{drop-drop}
 use Rattle.octets.specs.Octets.{be, bytes}
-use Rattle.octets.proofs.Laws.{Bytes}
+use Rattle.octets.proofs.ByteLaws.{Bytes}
 use Rattle.records.specs.Sizes.{header-size, certificate-size, card-size, executable-size, row-size, certificates-start, image-end, largest-image}
 use Rattle.records.specs.Layout.{certificate-read, certificate-bytes, card-read, card-bytes, executable-read, executable-bytes, row-read, row-bytes}
 use Rattle.records.specs.Phone.{Phone, joined, header-of, header-bytes, encode, decode, version, certificate-slots, card-count}
@@ -17,12 +17,12 @@ use Rattle.records.specs.Phone.{no-certificate, no-card, no-executable, 
 use Rattle.records.specs.Frame.{framed, Sized, Framed}
 use Rattle.records.proofs.Joined.{length-joined, tabulate-of, joined-tabulate, cells}
 use Rattle.records.proofs.Records.{length-row, upper, lower, certificate-part, card-part, executable-part, row-part}
-use Rattle.records.proofs.Parts.{before-table, length-before-table, part-table, certificate-slots-encode, card-count-encode}
-use Rattle.records.proofs.Parts.{executable-slots-encode, action-count-encode, standing-mode-encode, card-present-encode}
-use Rattle.records.proofs.Parts.{clock-time-encode, cards-at-encode, executables-at-encode, table-at-encode, certificate-encode}
-use Rattle.records.proofs.Parts.{card-encode, executable-encode, row-encode}
+use Rattle.records.proofs.ImageParts.{before-table, length-before-table, part-table, certificate-slots-encode, card-count-encode}
+use Rattle.records.proofs.ImageParts.{executable-slots-encode, action-count-encode, standing-mode-encode, card-present-encode}
+use Rattle.records.proofs.ImageParts.{clock-time-encode, cards-at-encode, executables-at-encode, table-at-encode, certificate-encode}
+use Rattle.records.proofs.ImageParts.{card-encode, executable-encode, row-encode}
 use Rattle.records.proofs.Said.{length-certificates, length-cards, length-executables, length-table}
-use Rattle.records.proofs.Fields.{Fields, fields}
+use Rattle.records.proofs.FrameFacts.{Fields, fields}
 
 -- ---- from a phone to its image and back
 

@@ -37,19 +37,23 @@ pub record Held (cards : List Card) (l : List Certificate) : Type 0 where
 abbrev pub Valid : ℕ → ℕ → Certificate → Type 0
 Valid d clock c = T (valid-in d clock c)
 
--- I5
-pub record Marks (cards : List Card) (seen : Seen) (l : List Certificate) : Type 0 where
-  pub one-each : (c e : Certificate) → List·Memᴰ c l → List·Memᴰ e l → Valid 1 (seen .clock) c → Valid 1 (seen .clock) e → c .place ≡ e .place → c .id ≡ e .id
-  pub not-both : (c e : Certificate) → List·Memᴰ c l → List·Memᴰ e l → Valid 1 (seen .clock) c → Valid 1 (seen .clock) e → c .place ≡ 0
-      → e .place ≡ seen .card → seen .card ≡ 0
+-- I5, where it says "at most one": of each place an operator root, and a manufacturer root; it looks at no card
+pub record Single (clock : ℕ) (l : List Certificate) : Type 0 where
+  pub one-each : (c e : Certificate) → List·Memᴰ c l → List·Memᴰ e l → Valid 1 clock c → Valid 1 clock e → c .place ≡ e .place → c .id ≡ e .id
+  pub one-maker : (c e : Certificate) → List·Memᴰ c l → List·Memᴰ e l → Valid 2 clock c → Valid 2 clock e → c .id ≡ e .id
+
+-- and where it says that the operator root on the phone yields to the card that is present
+pub record Yielding (cards : List Card) (seen : Seen) (l : List Certificate) : Type 0 where
+  pub not-both : (c e : Certificate) → List·Memᴰ c l → List·Memᴰ e l → Valid 1 (seen .clock) c → Valid 1 (seen .clock) e
+      → c .place ≡ 0 → e .place ≡ seen .card → seen .card ≡ 0
   pub mine : (c : Certificate) → List·Memᴰ c l → Valid 1 (seen .clock) c → c .place ≡ 0 → seen .card ≢ 0 → c .owner ≡ operator-of cards (seen .card)
-  pub one-maker : (c e : Certificate) → List·Memᴰ c l → List·Memᴰ e l → Valid 2 (seen .clock) c → Valid 2 (seen .clock) e → c .id ≡ e .id
 
 -- I2 to I5, with the card that is present
 pub record Kept (cards : List Card) (t : Trust) : Type 0 where
   pub card : T (known-place cards (t .seen .card))
   pub held : Held cards (t .certificates)
-  pub marks : Marks cards (t .seen) (t .certificates)
+  pub single : Single (t .seen .clock) (t .certificates)
+  pub yielding : Yielding cards (t .seen) (t .certificates)
 
 -- I3, of one card
 pub record Named (k : Card) : Type 0 where

@@ -13,11 +13,11 @@ use Rattle.records.specs.declared.Executable.{Executable}
 use Rattle.rules.specs.Words.{all, all-pairs, Check, _⇒_}
 use Rattle.rules.specs.Chains.{chains-to}
 use Rattle.rules.specs.ImageRules.{slot-fits, card-fits, known-place, places-known, key-of-one-domain, card-owns}
-use Rattle.rules.specs.ImageRules.{one-in-place, not-both, owned-by-card, one-manufacturer, row-fits, program-fits, chained-fits}
+use Rattle.rules.specs.ImageRules.{one-in-place, not-both, owned-by-card, one-manufacturer, row-fits, executable-slot-fits, chained-fits}
 use Rattle.rules.specs.ImageRules.{i1, i2, i3, i4, i5, i6, i7, i8, cards-fit, phone-rules, broken, accepted}
 use Rattle.rules.proofs.Tests.{tests, neqb→ne, and-i, or-j, or-cases, by-test, not-elim, not-intro, Passes, first-out, first-in}
 use Rattle.rules.proofs.Lists.{all-out, all-in, pairs-out, pairs-in}
-use Rattle.rules.proofs.Accepted.{Held, Marks, Accepted}
+use Rattle.rules.proofs.Accepted.{Held, Single, Yielding, Kept, Accepted}
 use Rattle.rules.proofs.Fits.{slot-out, slot-in, named-out, named-in, executable-out, executable-in}
 use Rattle.rules.proofs.Pairs.{key-out, key-in, owns-out, owns-in}
 use Rattle.rules.proofs.Pairs.{in-place-out, in-place-in, not-both-out, not-both-in, owned-out, owned-in, manufacturer-out, manufacturer-in}
@@ -48,16 +48,24 @@ held-out p r =
       owners = λ c m. owns-out (p .cards) c (all-out (card-owns (p .cards)) l (search tests) c m);
     }
 
-marks-out : (p : Phone) → T (i5 p) → Marks (p .cards) (p .trust .seen) (p .trust .certificates)
+single-out : (p : Phone) → T (i5 p) → Single (p .trust .seen .clock) (p .trust .certificates)
 unfolding i5
-marks-out p h =
+single-out p h =
+    let l = p .trust .certificates in
+    let t = p .trust .seen .clock in
+    record {
+      one-each = λ c e m n. in-place-out t c e (pairs-out (one-in-place t) l (search tests) c e m n);
+      one-maker = λ c e m n. manufacturer-out t c e (pairs-out (one-manufacturer t) l (search tests) c e m n);
+    }
+
+yielding-out : (p : Phone) → T (i5 p) → Yielding (p .cards) (p .trust .seen) (p .trust .certificates)
+unfolding i5
+yielding-out p h =
     let l = p .trust .certificates in
     let s = p .trust .seen in
     record {
-      one-each = λ c e m n. in-place-out (s .clock) c e (pairs-out (one-in-place (s .clock)) l (search tests) c e m n);
       not-both = λ c e m n. not-both-out s c e (pairs-out (not-both s) l (search tests) c e m n);
       mine = λ c m. owned-out (p .cards) s c (all-out (owned-by-card (p .cards) s) l (search tests) c m);
-      one-maker = λ c e m n. manufacturer-out (s .clock) c e (pairs-out (one-manufacturer (s .clock)) l (search tests) c e m n);
     }
 
 -- I8, of one executable
@@ -77,9 +85,9 @@ accepts-out p r =
     record {
       cards = λ k m. named-out k (all-out card-fits (p .cards) (search tests) k m);
       numbers = search tests;
-      trust = record { card = search tests; held = held-out p r; marks = marks-out p (r .i5) };
+      trust = record { card = search tests; held = held-out p r; single = single-out p (r .i5); yielding = yielding-out p (r .i5) };
       table = all-out row-fits (p .table) (r .i6);
-      executables = λ x m. executable-out n x (all-out (program-fits n) (p .executables) (search tests) x m);
+      executables = λ x m. executable-out n x (all-out (executable-slot-fits n) (p .executables) (search tests) x m);
       ids = search tests;
       chained = λ x m. chained-out (p .trust) x (all-out (chained-fits (p .trust)) (p .executables) (r .i8) x m);
     }
@@ -94,7 +102,7 @@ i4-in p h =
     let o : T (all (card-owns (p .cards)) l) = all-in (card-owns (p .cards)) l (λ c m. owns-in (p .cards) c (h .owners c m)) in
     search (and-i, h .ids)
 
-i5-in : (p : Phone) → Marks (p .cards) (p .trust .seen) (p .trust .certificates) → T (i5 p)
+i5-in : (p : Phone) → Kept (p .cards) (p .trust) → T (i5 p)
 unfolding i5
 i5-in p o = search (and-i, each, both, mine, maker)
   where
@@ -105,16 +113,16 @@ i5-in p o = search (and-i, each, both, mine, maker)
     s = p .trust .seen
 
     each : T (all-pairs (one-in-place (s .clock)) l)
-    each = pairs-in (one-in-place (s .clock)) l (λ c e m n. in-place-in (s .clock) c e (o .one-each c e m n))
+    each = pairs-in (one-in-place (s .clock)) l (λ c e m n. in-place-in (s .clock) c e (o .single .one-each c e m n))
 
     both : T (all-pairs (not-both s) l)
-    both = pairs-in (not-both s) l (λ c e m n. not-both-in s c e (o .not-both c e m n))
+    both = pairs-in (not-both s) l (λ c e m n. not-both-in s c e (o .yielding .not-both c e m n))
 
     mine : T (all (owned-by-card (p .cards) s) l)
-    mine = all-in (owned-by-card (p .cards) s) l (λ c m. owned-in (p .cards) s c (o .mine c m))
+    mine = all-in (owned-by-card (p .cards) s) l (λ c m. owned-in (p .cards) s c (o .yielding .mine c m))
 
     maker : T (all-pairs (one-manufacturer (s .clock)) l)
-    maker = pairs-in (one-manufacturer (s .clock)) l (λ c e m n. manufacturer-in (s .clock) c e (o .one-maker c e m n))
+    maker = pairs-in (one-manufacturer (s .clock)) l (λ c e m n. manufacturer-in (s .clock) c e (o .single .one-maker c e m n))
 
 chained-in : (t : Trust) (x : Executable) → (x .domain ≢ 0 → T (chains-to t (x .signing) (x .domain))) → T (chained-fits t x)
 chained-in t x h =
@@ -127,12 +135,13 @@ accepts-in p o =
     let n = length (p .table) in
     let c : T (all card-fits (p .cards)) = all-in card-fits (p .cards) (λ k m. named-in k (o .cards k m)) in
     let q : T (places-known (p .cards) l) = all-in (λ c. known-place (p .cards) (c .place)) l (o .trust .held .places) in
-    let x : T (all (program-fits n) (p .executables)) = all-in (program-fits n) (p .executables) (λ x m. executable-in n x (o .executables x m)) in
+    let x : T (all (executable-slot-fits n) (p .executables)) =
+    all-in (executable-slot-fits n) (p .executables) (λ x m. executable-in n x (o .executables x m)) in
     record {
       i2 = all-in slot-fits l (λ c m. slot-in c (o .trust .held .slots c m));
       i3 = search (and-i, o .numbers, o .trust .card);
       i4 = i4-in p (o .trust .held);
-      i5 = i5-in p (o .trust .marks);
+      i5 = i5-in p (o .trust);
       i6 = all-in row-fits (p .table) (o .table);
       i7 = search (and-i, o .ids);
       i8 = all-in (chained-fits (p .trust)) (p .executables) (λ x m. chained-in (p .trust) x (o .chained x m));

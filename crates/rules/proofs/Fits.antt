@@ -12,7 +12,7 @@ use Rattle.records.specs.declared.Executable.{Executable}
 use Rattle.rules.specs.Words.{_implies_, all-zero}
 use Rattle.rules.specs.ImageRules.{free-certificate, free-executable, zero-certificate, certificate-ranges, root-fits, issued-fits}
 use Rattle.rules.specs.ImageRules.{certificate-fits, zero-executable, executable-fits}
-use Rattle.rules.specs.ImageRules.{slot-fits, card-fits, program-fits}
+use Rattle.rules.specs.ImageRules.{slot-fits, card-fits, executable-slot-fits}
 use Rattle.rules.proofs.Tests.{tests, eq→eqb, neqb→ne, ne→neqb, and-i, or-i, or-cases, by-test, cond-no, yes-cond, no-cond, implies-out, implies-in}
 use Rattle.rules.proofs.Accepted.{Occupied, Named, Stored}
 
@@ -134,13 +134,13 @@ stored-in : (n : ℕ) (x : Executable) → Stored n x → T (executable-fits n x
 unfolding executable-fits
 stored-in n x s = search (and-i, eq→eqb, le→leb, s .domain, s .blank, s .permissions)
 
-pub executable-out : (n : ℕ) (x : Executable) → T (program-fits n x) → (x ≡ no-executable) ⊎ Stored n x
+pub executable-out : (n : ℕ) (x : Executable) → T (executable-slot-fits n x) → (x ≡ no-executable) ⊎ Stored n x
 executable-out n x h =
     by-test (free-executable x)
     (λ t. inl (no-executable-out x (yes-cond (free-executable x) (zero-executable x) (executable-fits n x) h t)))
     (λ t. inr (stored-out n x (neqb→ne (x .id) 0 t) (no-cond (free-executable x) (zero-executable x) (executable-fits n x) h t)))
 
-pub executable-in : (n : ℕ) (x : Executable) → (x ≡ no-executable) ⊎ Stored n x → T (program-fits n x)
+pub executable-in : (n : ℕ) (x : Executable) → (x ≡ no-executable) ⊎ Stored n x → T (executable-slot-fits n x)
 unfolding zero-executable all-zero
-executable-in n x (inl z) = subst (λ x. T (program-fits n x)) (sym z) tt
+executable-in n x (inl z) = subst (λ x. T (executable-slot-fits n x)) (sym z) tt
 executable-in n x (inr s) = cond-no (free-executable x) (zero-executable x) (executable-fits n x) (ne→neqb (x .id) 0 (s .id)) (stored-in n x s)

@@ -5,7 +5,7 @@ pub mod Slots
 pub mod Accepted
 pub mod Fits
 pub mod Accepts
-pub mod Rows
+pub mod TableRules
 pub mod Roots
 pub mod Changes
 pub mod Marks
@@ -18,5 +18,8 @@ pub mod Domain
 pub mod Pairs
 pub mod Lowest
 pub mod More
-pub mod Faults
+pub mod RulesGrow
 pub mod Where
+pub mod Promise
+pub mod SlotSweeps
+pub mod Tables

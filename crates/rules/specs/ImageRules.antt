@@ -177,13 +177,13 @@ unfoldable pub executable-fits : ℕ → Executable → Bool
 executable-fits actions x = leb (x .domain) 3 && eqb (x .blank) 0 && ltb (x .permissions) (2 ^ actions)
 
 -- a slot, free or occupied
-abbrev pub program-fits : ℕ → Executable → Bool
-program-fits actions x = cond (free-executable x) (zero-executable x) (executable-fits actions x)
+abbrev pub executable-slot-fits : ℕ → Executable → Bool
+executable-slot-fits actions x = cond (free-executable x) (zero-executable x) (executable-fits actions x)
 
 -- "Ids are distinct and not 0."
 unfoldable pub i7 : Phone → Bool
 i7 p =
-    all (program-fits (length (p .table))) (p .executables)
+    all (executable-slot-fits (length (p .table))) (p .executables)
     && distinct (map (λ x. x .id) (p .executables))
 
 -- ---- I8

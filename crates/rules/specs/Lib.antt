@@ -4,7 +4,7 @@ pub mod Explicit
 pub mod ImageRules
 pub mod Parts
 pub mod Faults
-pub mod Named
+pub mod FaultNames
 pub mod Actors
 pub mod Forms
 pub mod Codes
@@ -16,3 +16,5 @@ pub mod WorkedRun
 pub mod Damaged
 pub mod EachCode
 pub mod WhichList
+pub mod AcceptedImage
+pub mod Sweeping

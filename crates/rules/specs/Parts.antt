@@ -8,7 +8,7 @@ use Rattle.records.specs.declared.Certificate.{Certificate}
 use Rattle.records.specs.declared.Card.{Card}
 use Rattle.records.specs.declared.Executable.{Executable}
 use Rattle.rules.specs.Words.{all}
-use Rattle.rules.specs.ImageRules.{card-fits, key-of-one-domain, card-owns, one-in-place, not-both, owned-by-card, one-manufacturer, program-fits}
+use Rattle.rules.specs.ImageRules.{card-fits, key-of-one-domain, card-owns, one-in-place, not-both, owned-by-card, one-manufacturer, executable-slot-fits}
 
 -- n is 0, or not m: ids, and numbers of cards
 abbrev pub apart : ℕ → ℕ → Bool
@@ -38,5 +38,5 @@ i5-with cards seen l c = owned-by-card cards seen c && all (i5-pair seen c) l
 -- ---- I7
 
 -- of an executable x, beside those below it
-abbrev pub program-with : ℕ → List Executable → Executable → Bool
-program-with actions l x = program-fits actions x && all (λ y. apart (x .id) (y .id)) l
+abbrev pub executable-with : ℕ → List Executable → Executable → Bool
+executable-with actions l x = executable-slot-fits actions x && all (λ y. apart (x .id) (y .id)) l

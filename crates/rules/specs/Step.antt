@@ -24,13 +24,17 @@ refused-at l = record { code = 1; domain = 0; links = 0; rule = fault l .rule; o
 unfoldable pub refusal : List ℕ → ℕ → Answer
 refusal l c = cond (eqb c 1) (refused-at l) (refused c)
 
+-- what is told of code 0: a domain and a link count, or 0 and 0
+abbrev pub answer-done : ℕ → ℕ → Answer
+answer-done d n = record { code = 0; domain = d; links = n; rule = 0; offset = 0 }
+
 -- "Domain and links are non-zero only for code 0 of verify and request: the executable's domain, and its link count if that domain is not 0": p is
 -- the phone after the event
 unfoldable pub done : Event → Phone → Answer
 done e p =
     let x = executable-named p (e .id) in
-    let told : Answer = record { code = 0; domain = x .domain; links = links (p .trust) (x .signing) (x .domain); rule = 0; offset = 0 } in
-    cond (eqb (e .kind) 12 || eqb (e .kind) 15) told (refused 0)
+    let told = answer-done (x .domain) (links (p .trust) (x .signing) (x .domain)) in
+    cond (eqb (e .kind) 12 || eqb (e .kind) 15) told (answer-done 0 0)
 
 -- what an event makes of an image
 pub record Outcome : Type 0 where

@@ -1,6 +1,7 @@
-// What the programs share: an image as it comes from a descriptor, and text put into a buffer. Nothing is judged here.
+// What the programs share: an image as it comes from a descriptor, and what they write, put into a buffer. Nothing is judged here.
 use records::Header;
 use records::image;
+use rules::Answer;
 ghost use Prim.Native.Nat.{_+_, _≤_};
 ghost use mathlib.Core.Path.{_≡_};
 ghost use lib.ListN.{length};
@@ -8,6 +9,7 @@ ghost use Rattle.octets.specs.Octets.{put};
 ghost use Rattle.records.specs.Sizes.{largest-image};
 ghost use Rattle.stream.specs.Decimal.{most-digits, decimal, column};
 ghost use Rattle.stream.specs.Refusal.{image-refused, longest-refusal};
+ghost use Rattle.stream.specs.PrintedLines.{line, longest-line, heading};
 
 // Reads a header and then the bytes up to the total that it tells, and answers how many came: fewer where the input
 // ends. Behind a header with a total that no image has, nothing more is read.
@@ -29,6 +31,8 @@ pub fn read_image(fd: i32, s: &mut [u8]) -> usize
     let more = io::read_full(fd, &mut s[Header::SIZE..total]);
     Header::SIZE + more
 }
+
+// ---- text
 
 // Text put at a place of a buffer that has room for it there.
 pub fn put_text(out: &mut [u8], at: usize, text: &[u8])
@@ -60,6 +64,34 @@ pub fn put_column(out: &mut [u8], at: usize, n: u64) -> usize
 {
     put_text(out, at, b" ");
     put_number(out, at + 1, n)
+}
+
+// ---- what a run of `bench` writes, line by line
+
+// No line is longer: five numbers of at most 20 digits, and a byte behind each.
+pub const LONGEST_LINE: usize = 105;
+
+// The first line, put at the start of a buffer: how long it is.
+pub fn put_heading(out: &mut [u8]) -> usize
+    requires { ⌜ length heading ≤ length (now out) ⌝ }
+    ensures { λ r. ⌜ (now (out .exit) ≡ put (now (out .entry)) 0 heading) × (r ≡ length heading) ⌝ }
+{
+    put_text(out, 0, b"event kind code domain links\n");
+    29
+}
+
+// The line of an event's answer put at a place: the place behind it.
+pub fn put_line(out: &mut [u8], at: usize, n: u64, kind: u8, a: Answer) -> usize
+    requires { ⌜ at + longest-line ≤ length (now out) ⌝ }
+    ensures { λ r. ⌜ (now (out .exit) ≡ put (now (out .entry)) at (line n kind a)) × (r ≡ at + length (line n kind a)) ⌝ }
+{
+    let numbered = put_number(out, at, n);
+    let kinded = put_column(out, numbered, kind as u64);
+    let coded = put_column(out, kinded, a.code as u64);
+    let placed = put_column(out, coded, a.domain as u64);
+    let linked = put_column(out, placed, a.links as u64);
+    put_text(out, linked, b"\n");
+    linked + 1
 }
 
 // The line of an image that is refused, put at the start of a buffer: how long it is.

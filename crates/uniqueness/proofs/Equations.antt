@@ -299,54 +299,58 @@ one-image-write-executable κs a r r′ e e′ = written
 pub one-image-clear-executable : One-outcome Rattle.records.proofs.image.clear_executable.Reads.Learnt (λ e. e .0 .now ∷ [])
 one-image-clear-executable κs a r r′ e e′ = written
 
--- ==== forms
+-- ==== terms
 
-pub one-forms-apart : One-result Rattle.forms.proofs.apart.Reads.Learnt
-one-forms-apart κs a r r′ e e′ = returned
+pub one-terms-apart : One-result Rattle.terms.proofs.apart.Reads.Learnt
+one-terms-apart κs a r r′ e e′ = returned
 
-pub one-forms-certificate-fits : One-result Rattle.forms.proofs.certificate_fits.Reads.Learnt
-one-forms-certificate-fits κs a r r′ e e′ = returned
+pub one-terms-certificate-fits : One-result Rattle.terms.proofs.certificate_fits.Reads.Learnt
+one-terms-certificate-fits κs a r r′ e e′ = returned
 
-pub one-forms-slot-fits : One-result Rattle.forms.proofs.slot_fits.Reads.Learnt
-one-forms-slot-fits κs a r r′ e e′ = returned
+pub one-terms-slot-fits : One-result Rattle.terms.proofs.slot_fits.Reads.Learnt
+one-terms-slot-fits κs a r r′ e e′ = returned
 
-pub one-forms-card-fits : One-result Rattle.forms.proofs.card_fits.Reads.Learnt
-one-forms-card-fits κs a r r′ e e′ = returned
+pub one-terms-card-fits : One-result Rattle.terms.proofs.card_fits.Reads.Learnt
+one-terms-card-fits κs a r r′ e e′ = returned
 
-pub one-forms-key-of-one-domain : One-result Rattle.forms.proofs.key_of_one_domain.Reads.Learnt
-one-forms-key-of-one-domain κs a r r′ e e′ = returned
+pub one-terms-key-of-one-domain : One-result Rattle.terms.proofs.key_of_one_domain.Reads.Learnt
+one-terms-key-of-one-domain κs a r r′ e e′ = returned
 
-pub one-forms-row-fits : One-result Rattle.forms.proofs.row_fits.Reads.Learnt
-one-forms-row-fits κs a r r′ e e′ = returned
+pub one-terms-row-fits : One-result Rattle.terms.proofs.row_fits.Reads.Learnt
+one-terms-row-fits κs a r r′ e e′ = returned
 
-pub one-forms-program-fits : One-result Rattle.forms.proofs.program_fits.Reads.Learnt
-one-forms-program-fits κs a r r′ e e′ = returned
+pub one-terms-executable-slot-fits : One-result Rattle.terms.proofs.executable_slot_fits.Reads.Learnt
+one-terms-executable-slot-fits κs a r r′ e e′ = returned
 
--- ==== chain
+pub one-terms-is-present : One-result Rattle.terms.proofs.is_present.Reads.Learnt
+one-terms-is-present κs a r r′ e e′ = returned
 
-pub one-chain-is-present : One-result Rattle.chain.proofs.is_present.Reads.Learnt
-one-chain-is-present κs a r r′ e e′ = returned
+pub one-terms-in-date : One-result Rattle.terms.proofs.in_date.Reads.Learnt
+one-terms-in-date κs a r r′ e e′ = returned
 
-pub one-chain-in-date : One-result Rattle.chain.proofs.in_date.Reads.Learnt
-one-chain-in-date κs a r r′ e e′ = returned
+pub one-terms-valid-root : One-result Rattle.terms.proofs.valid_root.Reads.Learnt
+one-terms-valid-root κs a r r′ e e′ = returned
 
-pub one-chain-valid-root : One-result Rattle.chain.proofs.valid_root.Reads.Learnt
-one-chain-valid-root κs a r r′ e e′ = returned
+pub one-terms-valid-in : One-result Rattle.terms.proofs.valid_in.Reads.Learnt
+one-terms-valid-in κs a r r′ e e′ = returned
 
-pub one-chain-good-slots : One-result Rattle.chain.proofs.good_slots.Reads.Learnt
-one-chain-good-slots κs a r r′ e e′ = returned
+pub one-terms-is-third-party-root : One-result Rattle.terms.proofs.is_third_party_root.Reads.Learnt
+one-terms-is-third-party-root κs a r r′ e e′ = returned
 
-pub one-chain-is-chained : One-result Rattle.chain.proofs.is_chained.Reads.Learnt
-one-chain-is-chained κs a r r′ e e′ = returned
+pub one-terms-is-phone-operator-root : One-result Rattle.terms.proofs.is_phone_operator_root.Reads.Learnt
+one-terms-is-phone-operator-root κs a r r′ e e′ = returned
 
-pub one-chain-is-good : One-result Rattle.chain.proofs.is_good.Reads.Learnt
-one-chain-is-good κs a r r′ e e′ = returned
+pub one-terms-on-a-card : One-result Rattle.terms.proofs.on_a_card.Reads.Learnt
+one-terms-on-a-card κs a r r′ e e′ = returned
 
-pub one-chain-links-of : One-result Rattle.chain.proofs.links_of.Reads.Learnt
-one-chain-links-of κs a r r′ e e′ = returned
+pub one-terms-listed-id : One-result Rattle.terms.proofs.forms.listed_id.Reads.Learnt
+one-terms-listed-id κs a r r′ e e′ = returned
 
-pub one-chain-chain-of : One-result Rattle.chain.proofs.chain_of.Reads.Learnt
-one-chain-chain-of κs a r r′ e e′ = returned
+pub one-terms-new-certificate : One-result Rattle.terms.proofs.forms.new_certificate.Reads.Learnt
+one-terms-new-certificate κs a r r′ e e′ = returned
+
+pub one-terms-may-act : One-result Rattle.terms.proofs.actors.may_act.Reads.Learnt
+one-terms-may-act κs a r r′ e e′ = returned
 
 -- ==== lookup
 
@@ -371,84 +375,42 @@ one-lookup-known-place κs a r r′ e e′ = returned
 pub one-lookup-operator-of : One-result Rattle.lookup.proofs.operator_of.Reads.Learnt
 one-lookup-operator-of κs a r r′ e e′ = returned
 
-pub one-lookup-valid-in : One-result Rattle.lookup.proofs.valid_in.Reads.Learnt
-one-lookup-valid-in κs a r r′ e e′ = returned
-
 pub one-lookup-has-valid-operator : One-result Rattle.lookup.proofs.has_valid_operator.Reads.Learnt
 one-lookup-has-valid-operator κs a r r′ e e′ = returned
 
--- ==== decisions
+-- ==== chain
 
-pub one-decisions-may-act : One-result Rattle.decisions.proofs.may_act.Reads.Learnt
-one-decisions-may-act κs a r r′ e e′ = returned
+pub one-chain-links-of : One-result Rattle.chain.proofs.links_of.Reads.Learnt
+one-chain-links-of κs a r r′ e e′ = returned
 
-pub one-decisions-listed-id : One-result Rattle.decisions.proofs.listed_id.Reads.Learnt
-one-decisions-listed-id κs a r r′ e e′ = returned
+pub one-chain-is-good : One-result Rattle.chain.proofs.is_good.Reads.Learnt
+one-chain-is-good κs a r r′ e e′ = returned
 
-pub one-decisions-clock : One-result Rattle.decisions.proofs.clock.Reads.Learnt
-one-decisions-clock κs a r r′ e e′ = returned
+pub one-chain-chain-of : One-result Rattle.chain.proofs.chain_of.Reads.Learnt
+one-chain-chain-of κs a r r′ e e′ = returned
 
-pub one-decisions-card-in : One-result Rattle.decisions.proofs.card_in.Reads.Learnt
-one-decisions-card-in κs a r r′ e e′ = returned
+pub one-chain-first-unchained : One-result Rattle.chain.proofs.first_unchained.Reads.Learnt
+one-chain-first-unchained κs a r r′ e e′ = returned
 
-pub one-decisions-card-out : One-result Rattle.decisions.proofs.card_out.Reads.Learnt
-one-decisions-card-out κs a r r′ e e′ = returned
+pub one-chain-runs-out : One-result Rattle.chain.proofs.runs_out.Reads.Learnt
+one-chain-runs-out κs a r r′ e e′ = returned
 
-pub one-decisions-power-up : One-result Rattle.decisions.proofs.power_up.Reads.Learnt
-one-decisions-power-up κs a r r′ e e′ = returned
+pub one-chain-settle-domain : One-outcome Rattle.chain.proofs.settle_domain.Reads.Learnt (λ e. e .0 .now ∷ [])
+one-chain-settle-domain κs a r r′ e e′ = written
 
-pub one-decisions-new-certificate : One-result Rattle.decisions.proofs.new_certificate.Reads.Learnt
-one-decisions-new-certificate κs a r r′ e e′ = returned
+pub one-chain-settle : One-outcome Rattle.chain.proofs.settle.Reads.Learnt (λ e. e .0 .now ∷ [])
+one-chain-settle κs a r r′ e e′ = written
 
--- ==== effects
+-- ==== handling
 
-pub one-effects-tick : One-outcome Rattle.effects.proofs.tick.Reads.Learnt (λ e. e .0 .now ∷ [])
-one-effects-tick κs a r r′ e e′ = written
+pub one-handling-refused : One-result Rattle.handling.proofs.refused.Reads.Learnt
+one-handling-refused κs a r r′ e e′ = returned
 
-pub one-effects-card-only : One-outcome Rattle.effects.proofs.card_only.Reads.Learnt (λ e. e .0 .now ∷ [])
-one-effects-card-only κs a r r′ e e′ = written
+pub one-handling-done : One-result Rattle.handling.proofs.done.Reads.Learnt
+one-handling-done κs a r r′ e e′ = returned
 
-pub one-effects-card-in : One-outcome Rattle.effects.proofs.card_in.Reads.Learnt (λ e. e .0 .now ∷ [])
-one-effects-card-in κs a r r′ e e′ = written
-
-pub one-effects-card-out : One-outcome Rattle.effects.proofs.card_out.Reads.Learnt (λ e. e .0 .now ∷ [])
-one-effects-card-out κs a r r′ e e′ = written
-
-pub one-effects-power-up : One-outcome Rattle.effects.proofs.power_up.Reads.Learnt (λ e. e .0 .now ∷ [])
-one-effects-power-up κs a r r′ e e′ = written
-
-pub one-effects-install-certificate : One-outcome Rattle.effects.proofs.install_certificate.Reads.Learnt (λ e. e .0 .now ∷ [])
-one-effects-install-certificate κs a r r′ e e′ = written
-
-pub one-effects-delete-certificate : One-outcome Rattle.effects.proofs.delete_certificate.Reads.Learnt (λ e. e .0 .now ∷ [])
-one-effects-delete-certificate κs a r r′ e e′ = written
-
-pub one-effects-on-a-card : One-result Rattle.effects.proofs.on_a_card.Reads.Learnt
-one-effects-on-a-card κs a r r′ e e′ = returned
-
-pub one-effects-mark-valid : One-outcome Rattle.effects.proofs.mark_valid.Reads.Learnt (λ e. e .0 .now ∷ [])
-one-effects-mark-valid κs a r r′ e e′ = written
-
-pub one-effects-mark-invalid : One-outcome Rattle.effects.proofs.mark_invalid.Reads.Learnt (λ e. e .0 .now ∷ [])
-one-effects-mark-invalid κs a r r′ e e′ = written
-
-pub one-effects-install-executable : One-outcome Rattle.effects.proofs.install_executable.Reads.Learnt (λ e. e .0 .now ∷ [])
-one-effects-install-executable κs a r r′ e e′ = written
-
-pub one-effects-delete-executable : One-outcome Rattle.effects.proofs.delete_executable.Reads.Learnt (λ e. e .0 .now ∷ [])
-one-effects-delete-executable κs a r r′ e e′ = written
-
-pub one-effects-give : One-outcome Rattle.effects.proofs.give.Reads.Learnt (λ e. e .0 .now ∷ [])
-one-effects-give κs a r r′ e e′ = written
-
-pub one-effects-withdraw : One-outcome Rattle.effects.proofs.withdraw.Reads.Learnt (λ e. e .0 .now ∷ [])
-one-effects-withdraw κs a r r′ e e′ = written
-
-pub one-effects-settle-domain : One-outcome Rattle.effects.proofs.settle_domain.Reads.Learnt (λ e. e .0 .now ∷ [])
-one-effects-settle-domain κs a r r′ e e′ = written
-
-pub one-effects-settle : One-outcome Rattle.effects.proofs.settle.Reads.Learnt (λ e. e .0 .now ∷ [])
-one-effects-settle κs a r r′ e e′ = written
+pub one-handling-retire : One-outcome Rattle.handling.proofs.retire.Reads.Learnt (λ e. e .0 .now ∷ [])
+one-handling-retire κs a r r′ e e′ = written
 
 -- ==== reasons
 

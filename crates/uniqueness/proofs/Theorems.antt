@@ -3,14 +3,22 @@
 use Prim.Native.Nat.{ℕ}
 use mathlib.Core.List.{List, [], _∷_}
 use mathlib.Core.Path.{_≡_, sym, ap, _∙_, subst}
+use Rattle.records.specs.Phone.{Phone, tabulate, decode, no-row}
 use Rattle.records.specs.declared.Event.{Event}
+use Rattle.records.proofs.Joined.{length-tabulate}
 use Rattle.rules.specs.declared.Answer.{Answer}
-use Rattle.decisions.specs.declared.Plan.{Plan}
-use Rattle.decisions.specs.Plans.{Planned}
-use Rattle.events.specs.Stepped.{Handled, Stepped}
+use Rattle.events.specs.Stepped.{Stepped}
+use Rattle.handling.specs.Handled.{Handled, Settled}
 use Rattle.monitor.specs.Told.{Followed}
 use Rattle.uniqueness.specs.Outcomes.{One-result, One-outcome}
 use Rattle.uniqueness.proofs.Equations.{returned}
+
+-- a phone without anything, and one with n actions
+abbrev no-phone : Phone
+no-phone = decode []
+
+abbrev with-actions : ℕ → Phone
+with-actions n = record { trust = no-phone .trust; mode = 0; cards = []; executables = []; table = tabulate n (λ i. no-row) }
 
 -- one buffer, of one equation
 buffer : {x y z : List ℕ} → x ≡ z → y ≡ z → x ∷ [] ≡ y ∷ []
@@ -38,64 +46,101 @@ one-opening-open κs a r r′ e e′ x y = returned (x .answer) (y .answer)
 pub one-opening-refused-at : One-result Rattle.opening.proofs.refused_at.Reads.Learnt
 one-opening-refused-at κs a r r′ e e′ = returned
 
--- ==== decisions: a code and a slot, and that a slot that is acted on is one
+-- ==== terms: the form of a kind, on every phone
 
-pub one-plan : {code place n : ℕ} {r r′ : Plan} → Planned code place n r → Planned code place n r′ → r ≡ r′
-one-plan x y = returned (x .exact) (y .exact)
+pub one-terms-clock-form : One-result Rattle.terms.proofs.forms.clock_form.Reads.Learnt
+one-terms-clock-form κs a r r′ e e′ x y = returned (x no-phone) (y no-phone)
 
-pub one-decisions-install-certificate : One-result Rattle.decisions.proofs.install_certificate.Reads.Learnt
-one-decisions-install-certificate κs a r r′ e e′ = one-plan
+pub one-terms-card-form : One-result Rattle.terms.proofs.forms.card_form.Reads.Learnt
+one-terms-card-form κs a r r′ e e′ x y = returned (x no-phone) (y no-phone)
 
-pub one-decisions-delete-certificate : One-result Rattle.decisions.proofs.delete_certificate.Reads.Learnt
-one-decisions-delete-certificate κs a r r′ e e′ = one-plan
+pub one-terms-id-form : One-result Rattle.terms.proofs.forms.id_form.Reads.Learnt
+one-terms-id-form κs a r r′ e e′ x y = returned (x no-phone) (y no-phone)
 
-pub one-decisions-mark-valid : One-result Rattle.decisions.proofs.mark_valid.Reads.Learnt
-one-decisions-mark-valid κs a r r′ e e′ = one-plan
+pub one-terms-executable-form : One-result Rattle.terms.proofs.forms.executable_form.Reads.Learnt
+one-terms-executable-form κs a r r′ e e′ x y = returned (x no-phone) (y no-phone)
 
-pub one-decisions-mark-invalid : One-result Rattle.decisions.proofs.mark_invalid.Reads.Learnt
-one-decisions-mark-invalid κs a r r′ e e′ = one-plan
+pub one-terms-message-form : One-result Rattle.terms.proofs.forms.message_form.Reads.Learnt
+one-terms-message-form κs a r r′ e e′ x y = returned (x no-phone) (y no-phone)
 
--- a code, and where it is 0 the bound of the list
-pub one-decisions-message : One-result Rattle.decisions.proofs.message.Reads.Learnt
-one-decisions-message κs a r r′ e e′ x y = returned (x .0) (y .0)
+-- on every phone with so many actions, and there is one
+pub one-terms-action-form : One-result Rattle.terms.proofs.forms.action_form.Reads.Learnt
+one-terms-action-form κs a r r′ e e′ x y =
+    let p = with-actions (a .0) in
+    let q = sym (length-tabulate (a .0) (λ i. no-row)) in
+    returned (x p q) (y p q)
 
-pub one-decisions-install-executable : One-result Rattle.decisions.proofs.install_executable.Reads.Learnt
-one-decisions-install-executable κs a r r′ e e′ = one-plan
+-- ==== handling: the answer, and the image settled
 
-pub one-decisions-delete-executable : One-result Rattle.decisions.proofs.delete_executable.Reads.Learnt
-one-decisions-delete-executable κs a r r′ e e′ = one-plan
+one-settled : {l l′ l″ : List ℕ} {r r′ : Answer} → Settled l r l′ → Settled l r′ l″ → (r ≡ r′) × (l′ ∷ [] ≡ l″ ∷ [])
+one-settled x y = (returned (x .answer) (y .answer), buffer (x .image) (y .image))
 
-pub one-decisions-verify : One-result Rattle.decisions.proofs.verify.Reads.Learnt
-one-decisions-verify κs a r r′ e e′ = one-plan
+pub one-handling-settle : One-outcome Rattle.handling.proofs.settle.Reads.Learnt (λ e. e .0 .now ∷ [])
+one-handling-settle κs a r r′ e e′ = one-settled
 
-pub one-decisions-give : One-result Rattle.decisions.proofs.give.Reads.Learnt
-one-decisions-give κs a r r′ e e′ x y = one-plan (x .0) (y .0)
+pub one-handling-settle-if : One-outcome Rattle.handling.proofs.settle_if.Reads.Learnt (λ e. e .0 .now ∷ [])
+one-handling-settle-if κs a r r′ e e′ = one-settled
 
-pub one-decisions-withdraw : One-result Rattle.decisions.proofs.withdraw.Reads.Learnt
-one-decisions-withdraw κs a r r′ e e′ x y = one-plan (x .0) (y .0)
+pub one-handling-settle-own : One-outcome Rattle.handling.proofs.settle_own.Reads.Learnt (λ e. e .0 .now ∷ [])
+one-handling-settle-own κs a r r′ e e′ = one-settled
 
-pub one-decisions-request : One-result Rattle.decisions.proofs.request.Reads.Learnt
-one-decisions-request κs a r r′ e e′ = one-plan
+-- ==== device, certificates, executables: the answer and the image
 
--- ==== effects: what is told, and the image
+one-handled : {l l′ l″ : List ℕ} {e : Event} {r r′ : Answer} → Handled l e r l′ → Handled l e r′ l″ → (r ≡ r′) × (l′ ∷ [] ≡ l″ ∷ [])
+one-handled x y = (returned (x .answer) (y .answer), buffer (x .image) (y .image))
 
-pub one-effects-message : One-outcome Rattle.effects.proofs.message.Reads.Learnt (λ e. e .0 .now ∷ [])
-one-effects-message κs a r r′ e e′ x y = (returned (x .1) (y .1), buffer (x .0) (y .0))
+pub one-device-clock : One-outcome Rattle.device.proofs.clock.Reads.Learnt (λ e. e .0 .now ∷ [])
+one-device-clock κs a r r′ e e′ = one-handled
 
-pub one-effects-verify : One-outcome Rattle.effects.proofs.verify.Reads.Learnt (λ e. e .0 .now ∷ [])
-one-effects-verify κs a r r′ e e′ x y = (returned (x .1) (y .1), buffer (x .0) (y .0))
+pub one-device-card-in : One-outcome Rattle.device.proofs.card_in.Reads.Learnt (λ e. e .0 .now ∷ [])
+one-device-card-in κs a r r′ e e′ = one-handled
+
+pub one-device-card-out : One-outcome Rattle.device.proofs.card_out.Reads.Learnt (λ e. e .0 .now ∷ [])
+one-device-card-out κs a r r′ e e′ = one-handled
+
+pub one-device-power-up : One-outcome Rattle.device.proofs.power_up.Reads.Learnt (λ e. e .0 .now ∷ [])
+one-device-power-up κs a r r′ e e′ = one-handled
+
+pub one-certificates-install-certificate : One-outcome Rattle.certificates.proofs.install_certificate.Reads.Learnt (λ e. e .0 .now ∷ [])
+one-certificates-install-certificate κs a r r′ e e′ = one-handled
+
+pub one-certificates-delete-certificate : One-outcome Rattle.certificates.proofs.delete_certificate.Reads.Learnt (λ e. e .0 .now ∷ [])
+one-certificates-delete-certificate κs a r r′ e e′ = one-handled
+
+pub one-certificates-mark-valid : One-outcome Rattle.certificates.proofs.mark_valid.Reads.Learnt (λ e. e .0 .now ∷ [])
+one-certificates-mark-valid κs a r r′ e e′ = one-handled
+
+pub one-certificates-mark-invalid : One-outcome Rattle.certificates.proofs.mark_invalid.Reads.Learnt (λ e. e .0 .now ∷ [])
+one-certificates-mark-invalid κs a r r′ e e′ = one-handled
+
+pub one-certificates-message : One-outcome Rattle.certificates.proofs.message.Reads.Learnt (λ e. e .0 .now ∷ [])
+one-certificates-message κs a r r′ e e′ = one-handled
+
+pub one-executables-install-executable : One-outcome Rattle.executables.proofs.install_executable.Reads.Learnt (λ e. e .0 .now ∷ [])
+one-executables-install-executable κs a r r′ e e′ = one-handled
+
+pub one-executables-delete-executable : One-outcome Rattle.executables.proofs.delete_executable.Reads.Learnt (λ e. e .0 .now ∷ [])
+one-executables-delete-executable κs a r r′ e e′ = one-handled
+
+pub one-executables-verify : One-outcome Rattle.executables.proofs.verify.Reads.Learnt (λ e. e .0 .now ∷ [])
+one-executables-verify κs a r r′ e e′ = one-handled
+
+pub one-executables-give : One-outcome Rattle.executables.proofs.give.Reads.Learnt (λ e. e .0 .now ∷ [])
+one-executables-give κs a r r′ e e′ = one-handled
+
+pub one-executables-withdraw : One-outcome Rattle.executables.proofs.withdraw.Reads.Learnt (λ e. e .0 .now ∷ [])
+one-executables-withdraw κs a r r′ e e′ = one-handled
+
+pub one-executables-request : One-result Rattle.executables.proofs.request.Reads.Learnt
+one-executables-request κs a r r′ e e′ x y = returned (x .answer) (y .answer)
 
 -- ==== events: the answer and the image
-
--- each handler and `handle`
-pub one-handled : {l l′ l″ : List ℕ} {e : Event} {r r′ : Answer} → Handled l e r l′ → Handled l e r′ l″ → (r ≡ r′) × (l′ ≡ l″)
-one-handled x y = (returned (x .answer) (y .answer), returned (x .image) (y .image))
 
 one-stepped : {l v l′ l″ : List ℕ} {r r′ : Answer} → Stepped l v r l′ → Stepped l v r′ l″ → (r ≡ r′) × (l′ ∷ [] ≡ l″ ∷ [])
 one-stepped x y = (returned (x .answer) (y .answer), buffer (x .image) (y .image))
 
-pub one-events-step-on : One-outcome Rattle.events.proofs.step_on.Reads.Learnt (λ e. e .0 .now ∷ [])
-one-events-step-on κs a r r′ e e′ x y = one-stepped (x .stepped) (y .stepped)
+pub one-events-step-accepted : One-outcome Rattle.events.proofs.step_accepted.Reads.Learnt (λ e. e .0 .now ∷ [])
+one-events-step-accepted κs a r r′ e e′ x y = one-stepped (x .stepped) (y .stepped)
 
 pub one-events-step : One-outcome Rattle.events.proofs.step.Reads.Learnt (λ e. e .0 .now ∷ [])
 one-events-step κs a r r′ e e′ = one-stepped
@@ -117,7 +162,8 @@ one-followed x y = (returned (x .image) (y .image), returned (x .told) (y .told)
 pub one-monitor-run : One-outcome Rattle.monitor.proofs.monitor_run.Reads.Learnt (λ e. e .0 .now ∷ e .1 .1 .0 .now ∷ [])
 one-monitor-run κs a r r′ e e′ x y =
     let count = returned (x .count) (y .count) in
-    let f = one-followed (x .followed) (subst (λ n. Followed (a .0 .now) (a .1 .0 .now) (a .1 .1 .0 .now) n (e′ .0 .now) (e′ .1 .1 .0 .now)) (sym count) (y .followed)) in
+    let same = subst (λ n. Followed (a .0 .now) (a .1 .0 .now) (a .1 .1 .0 .now) n (e′ .0 .now) (e′ .1 .1 .0 .now)) (sym count) (y .followed) in
+    let f = one-followed (x .followed) same in
     (count, ap (λ l. l ∷ e .1 .1 .0 .now ∷ []) (f .0) ∙ ap (λ out. e′ .0 .now ∷ out ∷ []) (f .1))
 
 pub one-monitor-why : One-outcome Rattle.monitor.proofs.monitor_why.Reads.Learnt (λ e. e .1 .1 .0 .now ∷ [])
@@ -133,3 +179,9 @@ one-stream-put-column κs a r r′ e e′ x y = (returned (x .1) (y .1), buffer 
 
 pub one-stream-put-refusal : One-outcome Rattle.stream.proofs.put_refusal.Reads.Learnt (λ e. e .0 .now ∷ [])
 one-stream-put-refusal κs a r r′ e e′ x y = (returned (x .1) (y .1), buffer (x .0) (y .0))
+
+pub one-stream-put-heading : One-outcome Rattle.stream.proofs.put_heading.Reads.Learnt (λ e. e .0 .now ∷ [])
+one-stream-put-heading κs a r r′ e e′ x y = (returned (x .1) (y .1), buffer (x .0) (y .0))
+
+pub one-stream-put-line : One-outcome Rattle.stream.proofs.put_line.Reads.Learnt (λ e. e .0 .now ∷ [])
+one-stream-put-line κs a r r′ e e′ x y = (returned (x .1) (y .1), buffer (x .0) (y .0))

@@ -1,7 +1,8 @@
-// Runs the stored cases of its folder through the library and says what differs, by case, event and field. The file
-// `cases` names them, one to a line; NAME.in is a stream, NAME.out what `bench` writes for it and NAME.fin the image
-// afterwards. With a word on its command line each case goes three ways, as callers may: one run, runs with room for few
-// answers, and single steps. These open an image again and again, so that a program that is not optimised takes long.
+// Runs the stored cases of its folder through the library, writes what `bench` would and says where that differs from
+// what is stored. The file `cases` names them, one to a line; NAME.in is a stream, NAME.out what `bench` writes for it and
+// NAME.fin the image afterwards. With a word on its command line each case goes three ways, as callers may: one run, runs
+// with room for few answers, and single steps. These open an image again and again, so that a program that is not
+// optimised takes long.
 use libc::STDOUT_FILENO;
 use records::Card;
 use records::Certificate;
@@ -9,25 +10,26 @@ use records::Event;
 use records::Executable;
 use records::Header;
 use records::Row;
-ghost use Prim.Native.Nat.{_≤_, _<_, min};
+use records::image;
+use rules::Answer;
+ghost use Prim.Native.Nat.{_+_, _/_, _≤_, _<_, min};
 ghost use mathlib.Core.Path.{_≡_};
 ghost use lib.ListN.{length};
 ghost use Rattle.records.specs.Sizes.{largest-image, header-size};
+ghost use Rattle.stream.specs.PrintedLines.{longest-line};
 
 const MOST_CASES: u64 = 1000000;
-// A case has no more events than this.
-const MOST_EVENTS: usize = 65536;
+// More than the events of a case have room for.
+const MOST_EVENTS: usize = 4096;
 
 const ANSWER_SIZE: usize = 6;
 
 // The ways: a run with room for every answer, runs with room for seven answers each, and a step for each event.
-const WHOLE: u8 = 0;
-
-const PIECES: u8 = 1;
-
-const STEPS: u8 = 2;
-
-const PIECE_SIZE: usize = 42;
+enum Way {
+    Whole,
+    Pieces,
+    Steps,
+}
 
 // No code: an answer that is never told shows.
 const UNTOLD: u8 = 255;
@@ -41,10 +43,6 @@ const VERIFIED: usize = 272;
 const GRANTED: usize = 292;
 
 const COUNTS: usize = 312;
-
-const NEWLINE: u8 = 10;
-
-const SPACE: u8 = 32;
 
 fn say(text: &[u8]) {
     io::write_all(STDOUT_FILENO, text);
@@ -77,14 +75,6 @@ fn find(text: &[u8], from: usize, c: u8) -> usize
     i
 }
 
-// Where the word at `from` ends: at a space, or with its line.
-fn word_end(text: &[u8], from: usize) -> usize
-    requires { ⌜ from ≤ length (now text) ⌝ }
-    ensures { λ r. ⌜ (from ≤ r) × (r ≤ length (now (text .entry))) ⌝ }
-{
-    least(find(text, from, SPACE), find(text, from, NEWLINE))
-}
-
 // The place behind i, or the end.
 fn after(text: &[u8], i: usize) -> usize
     requires { ⌜ i ≤ length (now text) ⌝ }
@@ -94,47 +84,6 @@ fn after(text: &[u8], i: usize) -> usize
         return i + 1;
     }
     i
-}
-
-fn digit(c: u8) -> u64
-    ensures { λ r. ⌜ r ≤ 255 ⌝ }
-{
-    if c < 48 {
-        return 0;
-    }
-    (c - 48) as u64
-}
-
-// The number that stands from `from` to `end`; of a longer one than any here, its last twelve digits.
-fn value(text: &[u8], from: usize, end: usize) -> u64
-    requires { ⌜ (from ≤ end) × (end ≤ length (now text)) ⌝ }
-{
-    let mut n: u64 = 0;
-    let mut i = from;
-    while i < end {
-        n = (n * 10 + digit(text[i])) % 1000000000000;
-        i += 1;
-    }
-    n
-}
-
-// A number, and the place behind it and behind what parts it from the next.
-struct Found {
-    value: u64,
-    end: usize,
-}
-
-fn find_number(text: &[u8], from: usize) -> Found
-    requires { ⌜ from ≤ length (now text) ⌝ }
-    ensures { λ r. ⌜ r .end ≤ length (now (text .entry)) ⌝ }
-{
-    let end = word_end(text, from);
-    let n = value(text, from, end);
-    let next = after(text, end);
-    Found {
-        value: n,
-        end: next,
-    }
 }
 
 // ---- files
@@ -166,6 +115,26 @@ fn read_rest(fd: i32, buf: &mut [u8]) -> usize
     let got = io::read_full(fd, buf);
     libc::close(fd);
     got
+}
+
+// ---- an answer
+
+// The lowest byte of a number, shifted by so many bits.
+fn byte_of(told: u64, shift: u32) -> u8
+    requires { ⌜ shift < 64 ⌝ }
+{
+    ((told >> shift) % 256) as u8
+}
+
+// The parts of an answer, as bindings/monitor.h takes them apart.
+fn answer_of(told: u64) -> Answer {
+    Answer {
+        code: byte_of(told, 16),
+        domain: byte_of(told, 8),
+        links: byte_of(told, 0),
+        rule: byte_of(told, 24),
+        offset: ((told >> 32) % 65536) as u16,
+    }
 }
 
 // ---- counts
@@ -205,110 +174,20 @@ fn chain_row(kind: u8, code: u8) -> usize
     COUNTS
 }
 
-fn count_answer(seen: &mut [u64], kind: u8, code: u8, domain: u8, links: u8) {
-    count(seen, row(kind) * CODES + code as usize);
+// An answer that a refused image gets is not counted.
+fn count_answer(seen: &mut [u64], kind: u8, told: u64) {
+    if told >> 24 != 0 {
+        return;
+    }
+    let a = answer_of(told);
+    count(seen, row(kind) * CODES + a.code as usize);
     count(
         seen,
-        chain_row(kind, code) + domain as usize * 5 + links as usize,
+        chain_row(kind, a.code) + a.domain as usize * 5 + a.links as usize,
     );
 }
 
-// ---- what differs
-
-fn say_way(way: u8) {
-    if way == PIECES {
-        say(b" in pieces");
-    }
-    if way == STEPS {
-        say(b" by steps");
-    }
-}
-
-fn tell_case(name: &[u8], way: u8, what: &[u8]) -> u64
-    ensures { λ r. ⌜ r ≤ 1 ⌝ }
-{
-    say(b"case ");
-    say(name);
-    say_way(way);
-    say(what);
-    1
-}
-
-fn tell(name: &[u8], way: u8, what: &[u8], n: u64) {
-    tell_case(name, way, what);
-    say_number(n);
-}
-
-fn tell_values(got: u64, want: u64) {
-    say_number(got);
-    say(b", expected ");
-    say_number(want);
-    say(b"\n");
-}
-
-fn tell_bytes(got: u8, want: u8) {
-    tell_values(got as u64, want as u64);
-}
-
-// 1 where the field of the n-th event is not as expected.
-fn field_differs(name: &[u8], way: u8, n: u64, field: &[u8], got: u64, want: u64) -> u64
-    ensures { λ r. ⌜ r ≤ 1 ⌝ }
-{
-    if got == want {
-        return 0;
-    }
-    tell(name, way, b" event ", n);
-    say(field);
-    tell_values(got, want);
-    1
-}
-
-// Whether an event's line differs in some field, and the place behind the line.
-struct Line {
-    differs: u64,
-    end: usize,
-}
-
-fn line_differs(
-    name: &[u8],
-    way: u8,
-    want: &[u8],
-    from: usize,
-    n: u64,
-    kind: u8,
-    code: u8,
-    domain: u8,
-    links: u8,
-) -> Line
-    requires { ⌜ from ≤ length (now want) ⌝ }
-    ensures { λ r. ⌜ (r .differs ≤ 5) × (r .end ≤ length (now (want .entry))) ⌝ }
-{
-    let numbered = find_number(want, from);
-    let kinded = find_number(want, numbered.end);
-    let coded = find_number(want, kinded.end);
-    let placed = find_number(want, coded.end);
-    let linked = find_number(want, placed.end);
-    let a = field_differs(name, way, n, b" number ", n, numbered.value);
-    let b = field_differs(name, way, n, b" kind ", kind as u64, kinded.value);
-    let c = field_differs(name, way, n, b" code ", code as u64, coded.value);
-    let d = field_differs(name, way, n, b" domain ", domain as u64, placed.value);
-    let e = field_differs(name, way, n, b" links ", links as u64, linked.value);
-    Line {
-        differs: a + b + c + d + e,
-        end: linked.end,
-    }
-}
-
-// The first byte of the i-th event.
-fn kind_of(events: &[u8], i: usize) -> u8
-    requires { ⌜ i < 65536 ⌝ }
-{
-    let at = i * Event::SIZE;
-    if at < events.len() {
-        return events[at];
-    }
-    0
-}
+// ---- the ways through the library
 
 // Byte j of the i-th answer.
 fn told(answers: &[u8], i: usize, j: usize) -> u8
@@ -331,85 +210,238 @@ fn number_told(answers: &[u8], i: usize) -> u64
     (coded * 256 + told(answers, i, 1) as u64) * 256 + told(answers, i, 2) as u64
 }
 
-// The i-th answer of an accepted image names no rule and no byte.
-fn place_differs(name: &[u8], way: u8, answers: &[u8], i: usize) -> u64
-    requires { ⌜ i < 65536 ⌝ }
-    ensures { λ r. ⌜ r ≤ 2 ⌝ }
+// The n answers of a run, from the event `done` on, as the numbers that steps would answer.
+fn note(told: &mut [u64], done: usize, answers: &[u8], n: usize)
+    requires { ⌜ (done ≤ 4096) × (n ≤ 4096) ⌝ }
 {
-    let n = i as u64 + 1;
-    let offset = told(answers, i, 4) as u64 * 256 + told(answers, i, 5) as u64;
-    let a = field_differs(name, way, n, b" rule ", told(answers, i, 3) as u64, 0);
-    let b = field_differs(name, way, n, b" offset ", offset, 0);
-    a + b
+    let mut i = 0;
+    while i < n && done + i < told.len() {
+        told[done + i] = number_told(answers, i);
+        i += 1;
+    }
 }
 
-// The answers of a run beside its lines, and that there are as many of the one as of the other.
-fn answers_differ(
-    name: &[u8],
-    way: u8,
-    events: &[u8],
-    answers: &[u8],
-    n: usize,
-    want: &[u8],
-    from: usize,
-    seen: &mut [u64],
-) -> u64
-    requires { ⌜ (n ≤ 65536) × (from ≤ length (now want)) ⌝ }
-    ensures { λ r. ⌜ r ≤ 400000 ⌝ }
+// A run from the event `done` on, with room for as many answers as the buffer has; how many more were answered.
+fn run(image: &mut [u8], events: &[u8], done: usize, told: &mut [u64], answers: &mut [u8]) -> usize
+    requires { ⌜ (done ≤ 4096) × (length (now answers) ≤ 24576) ⌝ }
+    ensures { λ r. ⌜ r ≤ length (now (answers .entry)) / 6 ⌝ }
 {
-    let mut at = from;
-    let mut differing: u64 = 0;
+    let at = least(done * Event::SIZE, events.len());
+    let n = monitor::monitor_run(image, &events[at..], answers);
+    note(told, done, answers, n);
+    n
+}
+
+// Room for every answer.
+fn run_whole(image: &mut [u8], events: &[u8], told: &mut [u64]) -> usize {
+    let mut answers = [UNTOLD; 24576];
+    run(image, events, 0, told, &mut answers)
+}
+
+// Room for seven answers.
+fn run_piece(image: &mut [u8], events: &[u8], done: usize, told: &mut [u64]) -> usize
+    requires { ⌜ done ≤ 4096 ⌝ }
+    ensures { λ r. ⌜ r ≤ 7 ⌝ }
+{
+    let mut answers = [UNTOLD; 42];
+    run(image, events, done, told, &mut answers)
+}
+
+// Piece after piece, each going on behind the last event that was answered, until every one is.
+fn run_in_pieces(image: &mut [u8], events: &[u8], told: &mut [u64]) -> usize {
+    let mut done = 0;
+    while done <= MOST_EVENTS && done * Event::SIZE < events.len() {
+        let more = run_piece(image, events, done, told);
+        if more == 0 {
+            return done;
+        }
+        done += more;
+    }
+    done
+}
+
+// The i-th event as a step of its own.
+fn run_step(image: &mut [u8], events: &[u8], i: usize) -> u64
+    requires { ⌜ i ≤ 4096 ⌝ }
+{
+    let at = least(i * Event::SIZE, events.len());
+    let end = least(at + Event::SIZE, events.len());
+    monitor::monitor_step(image, &events[at..end])
+}
+
+fn run_by_steps(image: &mut [u8], events: &[u8], told: &mut [u64]) -> usize {
     let mut i = 0;
-    while i < n {
+    while i < MOST_EVENTS && i < told.len() && i * Event::SIZE < events.len() {
+        told[i] = run_step(image, events, i);
+        i += 1;
+    }
+    i
+}
+
+// The events of a buffer one way, on an image; how many were answered.
+fn run_by(way: Way, image: &mut [u8], events: &[u8], told: &mut [u64]) -> usize {
+    match way {
+        Way::Whole => run_whole(image, events, told),
+        Way::Pieces => run_in_pieces(image, events, told),
+        Way::Steps => run_by_steps(image, events, told),
+    }
+}
+
+// ---- what bench would write
+
+// The line of the n-th event or, where a rule and a byte are told, that of a refused image. That is told the same at every
+// event, and written once. An answer that is neither shows by its number.
+fn put_told(got: &mut [u8], at: usize, opened: u64, n: u64, kind: u8, told: u64) -> usize
+    requires { ⌜ at + longest-line ≤ length (now got) ⌝ }
+    ensures { λ r. ⌜ r ≤ length (now (got .exit)) ⌝ }
+{
+    let a = answer_of(told);
+    if told >> 24 == 0 {
+        return stream::put_line(got, at, n, kind, a);
+    }
+    if told == opened {
+        return at;
+    }
+    if told % 16777216 != 65536 {
+        return stream::put_line(got, at, told, kind, a);
+    }
+    at + stream::put_refusal(&mut got[at..], a.rule, a.offset)
+}
+
+// What opening tells of an image that is refused.
+fn put_opened(got: &mut [u8], at: usize, opened: u64) -> usize
+    requires { ⌜ at + longest-line ≤ length (now got) ⌝ }
+    ensures { λ r. ⌜ r ≤ length (now (got .exit)) ⌝ }
+{
+    if opened == 0 {
+        return at;
+    }
+    put_told(got, at, 0, 0, 0, opened)
+}
+
+// The first byte of the i-th event.
+fn kind_of(events: &[u8], i: usize) -> u8
+    requires { ⌜ i < 4096 ⌝ }
+{
+    let at = i * Event::SIZE;
+    if at < events.len() {
+        return events[at];
+    }
+    0
+}
+
+// All of it, as far as there is room: how long it is. The answers are counted.
+fn write_all(got: &mut [u8], opened: u64, events: &[u8], told: &[u64], seen: &mut [u64]) -> usize
+    requires { ⌜ (length (now got) ≡ 65536) × (length (now told) ≤ 4096) ⌝ }
+    ensures { λ r. ⌜ r ≤ length (now (got .exit)) ⌝ }
+{
+    let headed = stream::put_heading(got);
+    let mut at = put_opened(got, headed, opened);
+    let mut i = 0;
+    while i < told.len() && at + stream::LONGEST_LINE <= got.len() {
         let kind = kind_of(events, i);
-        let code = told(answers, i, 0);
-        let domain = told(answers, i, 1);
-        let links = told(answers, i, 2);
-        count_answer(seen, kind, code, domain, links);
-        let line = line_differs(name, way, want, at, i as u64 + 1, kind, code, domain, links);
-        at = line.end;
-        differing += line.differs;
+        count_answer(seen, kind, told[i]);
+        at = put_told(got, at, opened, i as u64 + 1, kind, told[i]);
         i += 1;
     }
-    if at == want.len() {
-        return differing;
-    }
-    tell(name, way, b" event ", n as u64 + 1);
-    say(b" is expected, and does not come\n");
-    differing + 1
+    at
 }
 
-// The answers of a run on an accepted image name no rule and no byte.
-fn places_differ(name: &[u8], way: u8, answers: &[u8], n: usize) -> u64
-    requires { ⌜ n ≤ 65536 ⌝ }
-    ensures { λ r. ⌜ r ≤ 140000 ⌝ }
+// ---- what differs
+
+fn say_way(way: Way) {
+    match way {
+        Way::Whole => {}
+        Way::Pieces => say(b" in pieces"),
+        Way::Steps => say(b" by steps"),
+    }
+}
+
+fn tell_case(name: &[u8], way: Way, what: &[u8]) -> bool {
+    say(b"case ");
+    say(name);
+    say_way(way);
+    say(what);
+    true
+}
+
+// The first place at which two buffers differ, or the shorter one's end.
+fn first_difference(a: &[u8], b: &[u8]) -> usize
+    ensures { λ r. ⌜ (r ≤ length (now (a .entry))) × (r ≤ length (now (b .entry))) ⌝ }
 {
-    let mut differing: u64 = 0;
+    let n = least(a.len(), b.len());
     let mut i = 0;
-    while i < n {
-        differing += place_differs(name, way, answers, i);
+    while i < n && a[i] == b[i] {
         i += 1;
     }
-    differing
+    i
 }
 
-// Both.
-fn told_differs(
-    name: &[u8],
-    way: u8,
-    events: &[u8],
-    answers: &[u8],
-    n: usize,
-    want: &[u8],
-    from: usize,
-    seen: &mut [u64],
-) -> u64
-    requires { ⌜ (n ≤ 65536) × (from ≤ length (now want)) ⌝ }
-    ensures { λ r. ⌜ r ≤ 540000 ⌝ }
+// A line of a text: which it is, the first one counted 1, and where it begins.
+struct Line {
+    number: usize,
+    start: usize,
+}
+
+// The line behind byte i, which is c, from that before it.
+fn next_line(line: Line, i: usize, c: u8) -> Line
+    requires { ⌜ (line .number ≤ i + 1) × (line .start ≤ i) × (i < 65536) ⌝ }
+    ensures { λ r. ⌜ (r .number ≤ i + 2) × (r .start ≤ i + 1) ⌝ }
 {
-    let told = answers_differ(name, way, events, answers, n, want, from, seen);
-    let placed = places_differ(name, way, answers, n);
-    told + placed
+    if c == b'\n' {
+        return Line {
+            number: line.number + 1,
+            start: i + 1,
+        };
+    }
+    line
+}
+
+// The line that byte `at` of a text is in.
+fn line_of(text: &[u8], at: usize) -> Line
+    requires { ⌜ (at ≤ length (now text)) × (at ≤ 65536) ⌝ }
+    ensures { λ r. ⌜ r .start ≤ at ⌝ }
+{
+    let mut line = Line {
+        number: 1,
+        start: 0,
+    };
+    let mut i = 0;
+    while i < at {
+        line = next_line(line, i, text[i]);
+        i += 1;
+    }
+    line
+}
+
+fn say_line(text: &[u8], start: usize)
+    requires { ⌜ start ≤ length (now text) ⌝ }
+{
+    if start == text.len() {
+        say(b"nothing");
+        return;
+    }
+    let end = find(text, start, b'\n');
+    say(&text[start..end]);
+}
+
+// Whether what would be written is not what is stored: the first line that differs.
+fn text_differs(name: &[u8], way: Way, got: &[u8], want: &[u8]) -> bool
+    requires { ⌜ length (now got) ≤ 65536 ⌝ }
+{
+    let at = first_difference(got, want);
+    if (at == got.len()) & (at == want.len()) {
+        return false;
+    }
+    let line = line_of(got, at);
+    tell_case(name, way, b" line ");
+    say_number(line.number as u64);
+    say(b": got ");
+    say_line(got, line.start);
+    say(b", expected ");
+    say_line(want, line.start);
+    say(b"\n");
+    true
 }
 
 // ---- the image afterwards
@@ -424,9 +456,11 @@ fn tell_record(part: &[u8], at: usize, size: usize)
     say_number((at % size) as u64);
 }
 
-fn tell_part(image: &[u8], at: usize)
-    requires { ⌜ header-size ≤ length (now image) ⌝ }
-{
+fn tell_part(image: &[u8], at: usize) {
+    if image.len() < Header::SIZE {
+        tell_record(b" header ", at, Header::SIZE);
+        return;
+    }
     let certificates = Header::certificates_at(image) as usize;
     let cards = Header::cards_at(image) as usize;
     let executables = Header::executables_at(image) as usize;
@@ -450,527 +484,161 @@ fn tell_part(image: &[u8], at: usize)
     tell_record(b" action ", at - table, Row::SIZE);
 }
 
-// The first place at which two buffers differ, or the shorter one's end.
-fn first_difference(a: &[u8], b: &[u8]) -> usize
-    ensures { λ r. ⌜ (r ≤ length (now (a .entry))) × (r ≤ length (now (b .entry))) ⌝ }
-{
-    let n = least(a.len(), b.len());
-    let mut i = 0;
-    while i < n && a[i] == b[i] {
-        i += 1;
-    }
-    i
+fn tell_values(got: u64, want: u64) {
+    say_number(got);
+    say(b", expected ");
+    say_number(want);
+    say(b"\n");
 }
 
-// 1 where the image is not the stored one: its first byte that differs, by its record.
-fn image_differs(name: &[u8], way: u8, image: &[u8], fin: &[u8]) -> u64
-    ensures { λ r. ⌜ r ≤ 1 ⌝ }
-{
-    if image.len() < Header::SIZE {
-        return tell_case(
-            name,
-            way,
-            b" image is accepted, and shorter than a header\n",
-        );
-    }
-    if image.len() != fin.len() {
+fn tell_bytes(got: u8, want: u8) {
+    tell_values(got as u64, want as u64);
+}
+
+// Whether the image is not as expected: its length, or its first byte that differs, by its record.
+fn image_differs(name: &[u8], way: Way, image: &[u8], want: &[u8]) -> bool {
+    if image.len() != want.len() {
         tell_case(name, way, b" image length ");
-        tell_values(image.len() as u64, fin.len() as u64);
-        return 1;
+        tell_values(image.len() as u64, want.len() as u64);
+        return true;
     }
-    let at = first_difference(image, fin);
+    let at = first_difference(image, want);
     if at == image.len() {
-        return 0;
+        return false;
     }
     tell_case(name, way, b" image");
     tell_part(image, at);
     say(b" is ");
-    tell_bytes(image[at], fin[at]);
-    1
-}
-
-// ---- the ways through the library
-
-// The first n bytes of a buffer of answers, as if no answer were there.
-fn forget(answers: &mut [u8], n: usize) {
-    let end = least(n, answers.len());
-    let mut i = 0;
-    while i < end {
-        answers[i] = UNTOLD;
-        i += 1;
-    }
-}
-
-// A run from the event `done` on, with room for a piece; how many more were answered.
-fn run_piece(image: &mut [u8], events: &[u8], done: usize, answers: &mut [u8]) -> usize
-    requires { ⌜ done ≤ 65536 ⌝ }
-    ensures { λ r. ⌜ r ≤ 7 ⌝ }
-{
-    let at = least(done * Event::SIZE, events.len());
-    let from = least(done * ANSWER_SIZE, answers.len());
-    let end = least(from + PIECE_SIZE, answers.len());
-    monitor::monitor_run(image, &events[at..], &mut answers[from..end])
-}
-
-// Piece after piece, each going on behind the last event that was answered, until every one is.
-fn run_in_pieces(image: &mut [u8], events: &[u8], answers: &mut [u8]) -> usize {
-    let mut done = 0;
-    while done <= MOST_EVENTS && done * Event::SIZE < events.len() {
-        let more = run_piece(image, events, done, answers);
-        if more == 0 {
-            return done;
-        }
-        done += more;
-    }
-    done
-}
-
-// The lowest byte of a number, shifted by so many bits.
-fn byte_of(told: u64, shift: u32) -> u8
-    requires { ⌜ shift < 64 ⌝ }
-{
-    ((told >> shift) % 256) as u8
-}
-
-fn set_byte(answers: &mut [u8], at: usize, b: u8) {
-    if at < answers.len() {
-        answers[at] = b;
-    }
-}
-
-// The parts of an answer, as bindings/monitor.h takes them apart, in the bytes of a run's answer.
-fn set_answer(answers: &mut [u8], at: usize, told: u64)
-    requires { ⌜ at ≤ 400000 ⌝ }
-{
-    set_byte(answers, at, byte_of(told, 16));
-    set_byte(answers, at + 1, byte_of(told, 8));
-    set_byte(answers, at + 2, byte_of(told, 0));
-    set_byte(answers, at + 3, byte_of(told, 24));
-    set_byte(answers, at + 4, byte_of(told, 40));
-    set_byte(answers, at + 5, byte_of(told, 32));
-}
-
-// The i-th event as a step of its own, and its answer.
-fn run_step(image: &mut [u8], events: &[u8], i: usize, answers: &mut [u8])
-    requires { ⌜ i ≤ 65536 ⌝ }
-{
-    let at = least(i * Event::SIZE, events.len());
-    let end = least(at + Event::SIZE, events.len());
-    let told = monitor::monitor_step(image, &events[at..end]);
-    set_answer(answers, i * ANSWER_SIZE, told);
-}
-
-fn run_by_steps(image: &mut [u8], events: &[u8], answers: &mut [u8]) -> usize {
-    let mut i = 0;
-    while i <= MOST_EVENTS && i * Event::SIZE < events.len() {
-        run_step(image, events, i, answers);
-        i += 1;
-    }
-    i
-}
-
-// ---- an image that is refused
-
-// Whether the line behind the first says that the image is refused.
-fn expects_refusal(want: &[u8], from: usize) -> bool
-    requires { ⌜ from ≤ length (now want) ⌝ }
-{
-    first_difference(&want[from..], b"image 1 ") == 8
-}
-
-// 1 where a number that is told of a refused image is not as expected.
-fn part_differs(name: &[u8], way: u8, part: &[u8], got: u64, want: u64) -> u64
-    ensures { λ r. ⌜ r ≤ 1 ⌝ }
-{
-    if got == want {
-        return 0;
-    }
-    tell_case(name, way, part);
-    tell_values(got, want);
-    1
-}
-
-// What is told of a refused image, as bindings/monitor.h takes it apart, beside its line: the last of the output.
-fn refusal_differs(name: &[u8], way: u8, told: u64, want: &[u8], from: usize) -> u64
-    requires { ⌜ from ≤ length (now want) ⌝ }
-    ensures { λ r. ⌜ r ≤ 5 ⌝ }
-{
-    let image = find_number(want, from);
-    let coded = find_number(want, image.end);
-    let ruled = find_number(want, coded.end);
-    let placed = find_number(want, ruled.end);
-    let a = part_differs(
-        name,
-        way,
-        b" image code ",
-        byte_of(told, 16) as u64,
-        coded.value,
-    );
-    let b = part_differs(
-        name,
-        way,
-        b" image rule ",
-        byte_of(told, 24) as u64,
-        ruled.value,
-    );
-    let c = part_differs(name, way, b" image offset ", told >> 32, placed.value);
-    let d = part_differs(name, way, b" image domain and links ", told % 65536, 0);
-    let e = part_differs(
-        name,
-        way,
-        b" output length ",
-        placed.end as u64,
-        want.len() as u64,
-    );
-    a + b + c + d + e
-}
-
-// 1 where an image that is refused is not as it was.
-fn kept_differs(name: &[u8], way: u8, image: &[u8], first: &[u8]) -> u64
-    ensures { λ r. ⌜ r ≤ 1 ⌝ }
-{
-    if first_difference(image, first) == image.len() {
-        return 0;
-    }
-    tell_case(name, way, b" image is refused, and changed\n")
-}
-
-// The first event as a step on an image that is refused.
-fn step_refused(
-    name: &[u8],
-    first: &[u8],
-    image: &mut [u8],
-    events: &[u8],
-    want: &[u8],
-    from: usize,
-) -> u64
-    requires { ⌜ from ≤ length (now want) ⌝ }
-    ensures { λ r. ⌜ r ≤ 6 ⌝ }
-{
-    let end = least(Event::SIZE, events.len());
-    let told = monitor::monitor_step(image, &events[..end]);
-    let a = refusal_differs(name, STEPS, told, want, from);
-    let b = kept_differs(name, STEPS, image, first);
-    a + b
-}
-
-// A run on an image that is refused: its last answer.
-fn run_refused(
-    name: &[u8],
-    first: &[u8],
-    image: &mut [u8],
-    events: &[u8],
-    want: &[u8],
-    from: usize,
-    answers: &mut [u8],
-) -> u64
-    requires { ⌜ from ≤ length (now want) ⌝ }
-    ensures { λ r. ⌜ r ≤ 6 ⌝ }
-{
-    let n = monitor::monitor_run(image, events, answers);
-    let kept = kept_differs(name, WHOLE, image, first);
-    if n == 0 {
-        return kept;
-    }
-    if MOST_EVENTS < n {
-        return tell_case(name, WHOLE, b" has too many events\n");
-    }
-    let told = refusal_differs(name, WHOLE, number_told(answers, n - 1), want, from);
-    told + kept
-}
-
-// An image that is refused and expected to be: by opening it and, every way, by a step and by a run.
-fn refused_differs(
-    name: &[u8],
-    every_way: bool,
-    told: u64,
-    first: &[u8],
-    size: usize,
-    image: &mut [u8],
-    events: &[u8],
-    want: &[u8],
-    from: usize,
-    answers: &mut [u8],
-) -> u64
-    requires { ⌜ (size ≤ length (now first)) × (length (now first) ≡ length (now image)) ⌝ }
-    requires { ⌜ from ≤ length (now want) ⌝ }
-    ensures { λ r. ⌜ r ≤ 17 ⌝ }
-{
-    let opened = refusal_differs(name, WHOLE, told, want, from);
-    if !every_way {
-        return opened;
-    }
-    stream::put_text(image, 0, first);
-    let stepped = step_refused(name, &first[..size], &mut image[..size], events, want, from);
-    let run = run_refused(
-        name,
-        &first[..size],
-        &mut image[..size],
-        events,
-        want,
-        from,
-        answers,
-    );
-    opened + stepped + run
+    tell_bytes(image[at], want[at]);
+    true
 }
 
 // ---- a case
 
-// The events of a buffer one way, on an image; how many were answered.
-fn run_by(way: u8, image: &mut [u8], events: &[u8], answers: &mut [u8]) -> usize {
-    if way == PIECES {
-        return run_in_pieces(image, events, answers);
-    }
-    if way == STEPS {
-        return run_by_steps(image, events, answers);
-    }
-    monitor::monitor_run(image, events, answers)
+// Whether what would be written of the answers is not what is stored.
+fn answers_differ(
+    name: &[u8],
+    way: Way,
+    opened: u64,
+    events: &[u8],
+    told: &[u64],
+    want: &[u8],
+    seen: &mut [u64],
+) -> bool
+    requires { ⌜ length (now told) ≤ 4096 ⌝ }
+{
+    let mut got = io::large_buffer();
+    let end = write_all(&mut got, opened, events, told, seen);
+    text_differs(name, way, &got[..end], want)
 }
 
-// How many fields differ one way. What came another way stands in neither buffer any more.
+// Whether the answers or the image differ one way.
 fn way_differs(
     name: &[u8],
-    way: u8,
+    way: Way,
     first: &[u8],
-    size: usize,
-    image: &mut [u8],
     events: &[u8],
     want: &[u8],
-    from: usize,
-    fin: &[u8],
-    answers: &mut [u8],
+    last: &[u8],
     seen: &mut [u64],
-) -> u64
-    requires { ⌜ (size ≤ length (now first)) × (length (now first) ≡ length (now image)) ⌝ }
-    requires { ⌜ from ≤ length (now want) ⌝ }
-    ensures { λ r. ⌜ r ≤ 540001 ⌝ }
+) -> bool
+    requires { ⌜ length (now first) ≤ largest-image ⌝ }
 {
-    stream::put_text(image, 0, first);
-    forget(answers, events.len() / 8 + ANSWER_SIZE);
-    let n = run_by(way, &mut image[..size], events, answers);
-    if MOST_EVENTS < n {
-        return tell_case(name, way, b" has too many events\n");
-    }
-    let told = told_differs(name, way, events, answers, n, want, from, seen);
-    let kept = image_differs(name, way, &image[..size], fin);
-    told + kept
+    let opened = monitor::monitor_open(first);
+    let size = first.len();
+    let mut image = [0u8; image::LARGEST];
+    stream::put_text(&mut image, 0, first);
+    let mut told = [0u64; MOST_EVENTS];
+    let n = run_by(way, &mut image[..size], events, &mut told);
+    let m = least(n, MOST_EVENTS);
+    let a = answers_differ(name, way, opened, events, &told[..m], want, seen);
+    let b = image_differs(name, way, &image[..size], last);
+    a | b
 }
 
-// The two other ways; what was covered is counted once.
-fn others_differ(
-    name: &[u8],
-    first: &[u8],
-    size: usize,
-    image: &mut [u8],
-    events: &[u8],
-    want: &[u8],
-    from: usize,
-    fin: &[u8],
-    answers: &mut [u8],
-) -> u64
-    requires { ⌜ (size ≤ length (now first)) × (length (now first) ≡ length (now image)) ⌝ }
-    requires { ⌜ from ≤ length (now want) ⌝ }
-    ensures { λ r. ⌜ r ≤ 1080002 ⌝ }
-{
-    let mut uncounted = [0u64; 0];
-    let a = way_differs(
-        name,
-        PIECES,
-        first,
-        size,
-        image,
-        events,
-        want,
-        from,
-        fin,
-        answers,
-        &mut uncounted,
-    );
-    let b = way_differs(
-        name,
-        STEPS,
-        first,
-        size,
-        image,
-        events,
-        want,
-        from,
-        fin,
-        answers,
-        &mut uncounted,
-    );
-    a + b
-}
-
-fn accepted_differs(
+// The ways that are asked for; what was covered is counted once.
+fn ways_differ(
     name: &[u8],
     every_way: bool,
     first: &[u8],
-    size: usize,
-    image: &mut [u8],
     events: &[u8],
     want: &[u8],
-    from: usize,
-    fin: &[u8],
-    answers: &mut [u8],
+    last: &[u8],
     seen: &mut [u64],
-) -> u64
-    requires { ⌜ (size ≤ length (now first)) × (length (now first) ≡ length (now image)) ⌝ }
-    requires { ⌜ from ≤ length (now want) ⌝ }
-    ensures { λ r. ⌜ r ≤ 1620003 ⌝ }
+) -> bool
+    requires { ⌜ length (now first) ≤ largest-image ⌝ }
 {
-    let a = way_differs(
-        name,
-        WHOLE,
-        first,
-        size,
-        image,
-        events,
-        want,
-        from,
-        fin,
-        answers,
-        seen,
-    );
+    let whole = way_differs(name, Way::Whole, first, events, want, last, seen);
     if !every_way {
-        return a;
+        return whole;
     }
-    let b = others_differ(name, first, size, image, events, want, from, fin, answers);
-    a + b
+    let mut none = [0u64; 0];
+    let pieces = way_differs(name, Way::Pieces, first, events, want, last, &mut none);
+    let steps = way_differs(name, Way::Steps, first, events, want, last, &mut none);
+    whole | pieces | steps
 }
 
-// How many fields of the case differ.
-fn differences(
-    name: &[u8],
-    every_way: bool,
-    first: &[u8],
-    size: usize,
-    image: &mut [u8],
-    events: &[u8],
-    want: &[u8],
-    fin: &[u8],
-    answers: &mut [u8],
-    seen: &mut [u64],
-) -> u64
-    requires { ⌜ (size ≤ length (now first)) × (length (now first) ≡ length (now image)) ⌝ }
-    ensures { λ r. ⌜ r ≤ 1620003 ⌝ }
+// How many bytes of events are asked: a refused image is asked an event of zeros where its case has none.
+fn asked(opened: u64, n: usize) -> usize
+    requires { ⌜ n ≤ 65536 ⌝ }
+    ensures { λ r. ⌜ r ≤ 65536 ⌝ }
 {
-    let from = after(want, find(want, 0, NEWLINE));
-    let to_refuse = expects_refusal(want, from);
-    let told = monitor::monitor_open(&first[..size]);
-    if told != 0 && to_refuse {
-        return refused_differs(
-            name,
-            every_way,
-            told,
-            first,
-            size,
-            image,
-            events,
-            want,
-            from,
-            answers,
-        );
+    if opened == 0 {
+        return n;
     }
-    if told != 0 {
-        return tell_case(
-            name,
-            WHOLE,
-            b" image is refused, and expected to be accepted\n",
-        );
+    if n == 0 {
+        return Event::SIZE;
     }
-    if to_refuse {
-        return tell_case(
-            name,
-            WHOLE,
-            b" image is accepted, and expected to be refused\n",
-        );
+    n
+}
+
+// The image that has to be there afterwards: a refused one stays as it was.
+fn read_last(name: &[u8], opened: u64, first: &[u8], last: &mut [u8]) -> usize
+    requires { ⌜ length (now first) ≤ length (now last) ⌝ }
+    ensures { λ r. ⌜ r ≤ length (now (last .exit)) ⌝ }
+{
+    if opened != 0 {
+        stream::put_text(last, 0, first);
+        return first.len();
     }
-    accepted_differs(
-        name,
-        every_way,
-        first,
-        size,
-        image,
-        events,
-        want,
-        from,
-        fin,
-        answers,
-        seen,
-    )
+    let kept = open_part(name, b".fin");
+    read_rest(kept, last)
 }
 
 // The stream of a case, from its descriptor: an image, and the events behind it.
-fn stream_differs(
-    name: &[u8],
-    every_way: bool,
-    given: i32,
-    first: &mut [u8],
-    image: &mut [u8],
-    events: &mut [u8],
-    want: &[u8],
-    fin: &[u8],
-    answers: &mut [u8],
-    seen: &mut [u64],
-) -> u64
-    requires { ⌜ (length (now first) ≡ largest-image) × (length (now image) ≡ largest-image) ⌝ }
-    ensures { λ r. ⌜ r ≤ 1620003 ⌝ }
-{
-    let i = stream::read_image(given, first);
-    let e = read_rest(given, events);
-    differences(
+fn stream_differs(name: &[u8], every_way: bool, given: i32, want: &[u8], seen: &mut [u64]) -> bool {
+    let mut first = [0u8; image::LARGEST];
+    let i = stream::read_image(given, &mut first);
+    let mut events = io::large_buffer();
+    let e = read_rest(given, &mut events);
+    let opened = monitor::monitor_open(&first[..i]);
+    let n = asked(opened, e);
+    let mut last = io::buffer();
+    let l = read_last(name, opened, &first[..i], &mut last);
+    ways_differ(
         name,
         every_way,
-        first,
-        i,
-        image,
-        &events[..e],
+        &first[..i],
+        &events[..n],
         want,
-        fin,
-        answers,
+        &last[..l],
         seen,
     )
 }
 
-// A case by its name: its files are read into the buffers, and it is run.
-fn case(
-    name: &[u8],
-    every_way: bool,
-    first: &mut [u8],
-    image: &mut [u8],
-    events: &mut [u8],
-    want: &mut [u8],
-    fin: &mut [u8],
-    answers: &mut [u8],
-    seen: &mut [u64],
-) -> u64
-    requires { ⌜ (length (now first) ≡ largest-image) × (length (now image) ≡ largest-image) ⌝ }
-    ensures { λ r. ⌜ r ≤ 1620003 ⌝ }
-{
+// A case by its name.
+fn case(name: &[u8], every_way: bool, seen: &mut [u64]) -> bool {
     let given = open_part(name, b".in");
     if given < 0 {
-        return tell_case(name, WHOLE, b".in cannot be read\n");
+        return tell_case(name, Way::Whole, b".in cannot be read\n");
     }
     let expected = open_part(name, b".out");
     if expected < 0 {
-        return tell_case(name, WHOLE, b".out cannot be read\n");
+        return tell_case(name, Way::Whole, b".out cannot be read\n");
     }
-    let w = read_rest(expected, want);
-    let kept = open_part(name, b".fin");
-    let f = read_rest(kept, fin);
-    stream_differs(
-        name,
-        every_way,
-        given,
-        first,
-        image,
-        events,
-        &want[..w],
-        &fin[..f],
-        answers,
-        seen,
-    )
+    let mut want = io::large_buffer();
+    let w = read_rest(expected, &mut want);
+    stream_differs(name, every_way, given, &want[..w], seen)
 }
 
 // ---- all of them
@@ -1027,46 +695,25 @@ fn report(seen: &[u64]) {
     say_table(seen, GRANTED, 4, 5);
 }
 
-fn one_if_any(n: u64) -> u64
+fn one_if(b: bool) -> u64
     ensures { λ r. ⌜ r ≤ 1 ⌝ }
 {
-    if n == 0 {
-        return 0;
+    if b {
+        return 1;
     }
-    1
+    0
 }
 
-fn all_cases(
-    list: &[u8],
-    every_way: bool,
-    first: &mut [u8],
-    image: &mut [u8],
-    events: &mut [u8],
-    want: &mut [u8],
-    fin: &mut [u8],
-    answers: &mut [u8],
-    seen: &mut [u64],
-)
-    requires { ⌜ (length (now first) ≡ largest-image) × (length (now image) ≡ largest-image) ⌝ }
-{
+fn all_cases(list: &[u8], every_way: bool, seen: &mut [u64]) {
     let mut run: u64 = 0;
     let mut differing: u64 = 0;
     let mut i = 0;
     while run < MOST_CASES && i < list.len() {
-        let end = word_end(list, i);
-        differing += one_if_any(case(
-            &list[i..end],
-            every_way,
-            first,
-            image,
-            events,
-            want,
-            fin,
-            answers,
-            seen,
-        ));
+        let line_end = find(list, i, b'\n');
+        let end = least(find(list, i, b' '), line_end);
+        differing += one_if(case(&list[i..end], every_way, seen));
         run += 1;
-        i = after(list, find(list, i, NEWLINE));
+        i = after(list, line_end);
     }
     say_number(run);
     say(b" cases, ");
@@ -1082,23 +729,7 @@ fn main() {
     }
     let mut list = io::large_buffer();
     let n = read_rest(cases, &mut list);
-    let mut first = [0u8; 2536];
-    let mut image = [0u8; 2536];
-    let mut events = io::large_buffer();
-    let mut want = io::large_buffer();
-    let mut fin = io::buffer();
-    let mut answers = io::large_buffer();
     let mut seen = [0u64; COUNTS];
-    all_cases(
-        &list[..n],
-        1 < os::arg_count(),
-        &mut first,
-        &mut image,
-        &mut events,
-        &mut want,
-        &mut fin,
-        &mut answers,
-        &mut seen,
-    );
+    all_cases(&list[..n], 1 < os::arg_count(), &mut seen);
     report(&seen);
 }

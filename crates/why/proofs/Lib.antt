@@ -1,4 +1,5 @@
 pub mod Sentences
 pub mod Pages
-pub mod Answers
+pub mod PrintedAnswer
 pub mod Numbers
+pub mod RunOfEvents

@@ -5,12 +5,12 @@ use mathlib.Core.Path.{_≡_, refl, sym, ap, ap₂, subst, _∙_}
 use native.Mathlib.Omega.{arith}
 use lib.ListN.{length, drop}
 use Rattle.octets.specs.Octets.{be, be8, be16, put}
-use Rattle.octets.proofs.Laws.{join, be-skip}
+use Rattle.octets.proofs.ByteLaws.{join, be-skip}
 use Rattle.records.specs.Phone.{joined}
 use Rattle.explanations.specs.Why.{Line, line}
 use Rattle.reasons.specs.Lines.{line-size, line-bytes, with-lines}
-use Rattle.stream.proofs.Lines.{Put, then}
-use Rattle.why.specs.Words.{sentence, page, line-at, lines-said}
+use Rattle.stream.proofs.JoinedTexts.{Put, then}
+use Rattle.why.specs.SentenceText.{sentence, page, line-at, lines-said}
 use Rattle.why.proofs.Sentences.{said, nothing}
 
 -- the id of the last line, or that above the first where there is none

@@ -10,15 +10,15 @@ use borrow.Author.Tests.{ne-eqb}
 use lib.Dec.{eqb}
 use lib.ListN.{length, length-append}
 use Rattle.octets.specs.Octets.{put}
-use Rattle.octets.proofs.Laws.{put-none}
+use Rattle.octets.proofs.ByteLaws.{put-none}
 use Rattle.explanations.specs.Why.{Line, line, said-link, said-unsigned, said-unheld, said-untrusted}
 use Rattle.explanations.specs.Why.{said-absent, said-invalid, said-disabled, said-past, said-unserved}
 use Rattle.stream.specs.Decimal.{most-digits, decimal}
 use Rattle.stream.proofs.Texts.{decimal-small}
-use Rattle.stream.proofs.Lines.{Put, then}
-use Rattle.why.specs.Words.{certificate, application, key-of-none, ended, is-a-root, is-verified-by, is-untrusted, is-unsigned}
-use Rattle.why.specs.Words.{is-absent, is-invalid, is-disabled, is-past, is-unserved}
-use Rattle.why.specs.Words.{about, link-sentence, reason-sentence, sentence, longest-sentence}
+use Rattle.stream.proofs.JoinedTexts.{Put, then}
+use Rattle.why.specs.SentenceText.{certificate, application, key-of-none, ended, is-a-root, is-verified-by, is-untrusted, is-unsigned}
+use Rattle.why.specs.SentenceText.{is-absent, is-invalid, is-disabled, is-past, is-unserved}
+use Rattle.why.specs.SentenceText.{about, link-sentence, reason-sentence, sentence, longest-sentence}
 
 -- the same text under another name
 pub said : (l : List ℕ) (i : ℕ) {text named s : List ℕ} {j : ℕ} → named ≡ text → Put l i text s j → Put l i named s j

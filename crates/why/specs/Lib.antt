@@ -1,3 +1,4 @@
-pub mod Words
+pub mod SentenceText
 pub mod Number
 pub mod Printed
+pub mod EventsRun

@@ -7,11 +7,11 @@ use Rattle.rules.specs.Step.{run}
 use Rattle.rules.specs.WorkedRun.{image, events, chains-image}
 use Rattle.explanations.specs.Why.{line, said-link, said-unsigned, said-unheld, said-untrusted}
 use Rattle.explanations.specs.Why.{said-absent, said-invalid, said-disabled, said-past, said-unserved}
-use Rattle.explanations.specs.Told.{telling}
+use Rattle.explanations.specs.WorkedExplanations.{telling}
 use Rattle.reasons.specs.Lines.{why-code, lines-of}
 use Rattle.stream.specs.Decimal.{places-within, decimal}
 use Rattle.stream.specs.Refusal.{image-refused}
-use Rattle.why.specs.Words.{link-sentence, reason-sentence, sentence, page, answer-text}
+use Rattle.why.specs.SentenceText.{link-sentence, reason-sentence, sentence, page, answer-text}
 
 -- every definition that a page goes by, under one name
 unfoldable pub printing : Unit {0}

@@ -5,19 +5,21 @@ use libc::STDERR_FILENO;
 use libc::STDIN_FILENO;
 use libc::STDOUT_FILENO;
 use records::Event;
+use records::image;
 ghost use mathlib.Core.Path.{_≡_};
 ghost use Prim.Native.Nat.{_+_, _*_, _≤_};
 ghost use lib.Dec.{eqb};
 ghost use lib.ListN.{length};
 ghost use Rattle.octets.specs.Octets.{put};
 ghost use Rattle.records.specs.Sizes.{event-size};
-ghost use Rattle.opening.specs.Opened.{Accepted-image};
+ghost use Rattle.rules.specs.AcceptedImage.{Accepted-image};
 ghost use Rattle.explanations.specs.Why.{line};
 ghost use Rattle.reasons.specs.Lines.{line-size, why-code};
 ghost use Rattle.stream.specs.Decimal.{most-digits};
 ghost use Rattle.why.specs.Number.{number};
-ghost use Rattle.why.specs.Words.{about, link-sentence, reason-sentence, sentence, longest-sentence};
-ghost use Rattle.why.specs.Words.{page, lines-said, longest-page, executable-unknown, answer-text};
+ghost use Rattle.why.specs.EventsRun.{Ran-at-most};
+ghost use Rattle.why.specs.SentenceText.{about, link-sentence, reason-sentence, sentence, longest-sentence};
+ghost use Rattle.why.specs.SentenceText.{page, lines-said, longest-page, executable-unknown, answer-text};
 
 // ---- a sentence
 
@@ -171,6 +173,7 @@ fn tell(s: &[u8], id: u16) {
 fn run_events(s: &mut [u8], v: &mut [u8], most: u64)
     requires { ⌜ Accepted-image (now s) ⌝ }
     requires { ⌜ length (now v) ≡ event-size ⌝ }
+    ensures { λ _. ⌜ Ran-at-most (now (s .entry)) most (now (s .exit)) ⌝ }
 {
     let mut n: u64 = 0;
     while n < most {
@@ -178,7 +181,7 @@ fn run_events(s: &mut [u8], v: &mut [u8], most: u64)
         if got == 0 {
             return;
         }
-        events::step_on(s, &v[..got]);
+        events::step_accepted(s, &v[..got]);
         n += 1;
     }
 }
@@ -201,7 +204,7 @@ fn lesson(s: &mut [u8], id: u16, events: u64) {
 
 // What came as an image. Zeros of the buffer never stand for bytes that were not read.
 fn explain(id: u16, events: u64) {
-    let mut buffer = [0u8; 2536];
+    let mut buffer = [0u8; image::LARGEST];
     let got = stream::read_image(STDIN_FILENO, &mut buffer);
     lesson(&mut buffer[..got], id, events);
 }

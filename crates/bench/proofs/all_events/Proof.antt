@@ -1,11 +1,11 @@
 use borrow.Author.Needs.{needs}
-use Rattle.bench.proofs.Texts.{line-small, room-there}
+use Rattle.bench.proofs.LoopPlaces.{room-there, line-within}
 use native.Mathlib.Omega.{arith}
 use mathlib.Core.Path.{sym, _≡_}
 use lib.Seq.{length-take-le}
 use lib.ListN.{length, getD}
 use Prim.Native.Nat.{_+_, _-_, _≤_}
-use Rattle.opening.specs.Opened.{Accepted-image}
+use Rattle.rules.specs.AcceptedImage.{Accepted-image}
 use Rattle.bench.proofs.all_events.Statement.{statement}
 use Rattle.bench.proofs.all_events.Tie as tie
 
@@ -16,6 +16,10 @@ Inv-loop s₀ v₀ out₀ used₀ n₀ got₀ s v out used n got =
 abbrev μ-loop : tie.MeasureT-loop
 μ-loop s₀ v₀ out₀ used₀ n₀ got₀ s v out used n got = 18446744073709551615 - n
 
+-- the state behind the step, from that behind the room for its line
+abbrev stepped : tie.After-room Inv-loop μ-loop → tie.After-step-accepted Inv-loop μ-loop
+stepped c = c .before .before .before .before
+
 read-full-requires : tie.Need-read-full-requires Inv-loop μ-loop
 read-full-requires c κs = search needs
 
@@ -25,14 +29,14 @@ loop-holds c = search needs
 add-n : tie.Need-add-n Inv-loop μ-loop
 add-n c = omega arith
 
-slice-reshare-prefix-step-on : tie.Need-slice-reshare-prefix-step-on Inv-loop μ-loop
-slice-reshare-prefix-step-on c = search needs
+slice-reshare-prefix-step-accepted : tie.Need-slice-reshare-prefix-step-accepted Inv-loop μ-loop
+slice-reshare-prefix-step-accepted c = search needs
 
-slice-aggregate-step-on : tie.Need-slice-aggregate-step-on Inv-loop μ-loop
-slice-aggregate-step-on c = sym (length-take-le _ _ (search needs))
+slice-aggregate-step-accepted : tie.Need-slice-aggregate-step-accepted Inv-loop μ-loop
+slice-aggregate-step-accepted c = sym (length-take-le _ _ (search needs))
 
-step-on-requires : tie.Need-step-on-requires Inv-loop μ-loop
-step-on-requires c κs = search needs
+step-accepted-requires : tie.Need-step-accepted-requires Inv-loop μ-loop
+step-accepted-requires c κs = search needs
 
 room-requires : tie.Need-room-requires Inv-loop μ-loop
 room-requires c κs = (omega arith, omega arith)
@@ -42,8 +46,11 @@ slice-read-put-line c = search needs
 
 put-line-requires : tie.Need-put-line-requires Inv-loop μ-loop
 put-line-requires c κs =
-    let v = c .before .before .before .before .before .before .before .before .before .before .before .loop in
-    omega (arith, room-there (v .used) (length (v .out)) (omega arith), c .before .before .room .ensures)
+    let roomed = c .before .before in
+    let looped = stepped roomed .before .before .before .before .before in
+    let v = looped .loop in
+    let wide = looped .before .before .before .before in
+    omega (arith, room-there (v .used) (length (v .out)) (omega (arith, wide .before .before .before .before .pre .1 .1)), roomed .room .ensures)
 
 read-full-requires-2 : tie.Need-read-full-requires-2 Inv-loop μ-loop
 read-full-requires-2 c κs = search needs
@@ -53,13 +60,15 @@ loop-less c = omega arith
 
 loop-again : tie.Need-loop-again Inv-loop μ-loop
 loop-again c =
-    let v = c .before .before .before .before .before .before .before .before .before .before .before .before .before .before .before .before .before .before .loop in
-    let told = c .before .before .before .before .before .before .put-line .ensures .1 in
-    let wide = c .before .before .before .before .before .before .before .before .before .before .before .before .before .before .before .before .before .before .before .before .before .before .before .before .before .before .pre .1 .1 in
-    let there = room-there (v .used) (length (v .out)) (omega (arith, wide)) in
-    let at = c .before .before .before .before .before .before .before .before .before .room .ensures in
-    let small = line-small (v .n + 1) (getD (v .v) 0 0) (c .before .before .before .before .before .before .before .before .before .before .before .before .before .step-on .result) in
-    (search needs, search needs, omega arith, search needs, omega (arith, told, there, at, small), search needs)
+    let told = c .before .before .before .before .before .before in
+    let roomed = told .before .before .before in
+    let answered = stepped roomed in
+    let looped = answered .before .before .before .before .before in
+    let v = looped .loop in
+    let wide = looped .before .before .before .before in
+    let at = line-within (v .used) (length (v .out)) (v .n + 1) (getD (v .v) 0 0) (answered .step-accepted .result) (roomed .room .ensures) in
+    let within = at (told .put-line .ensures .1) (omega (arith, wide .before .before .before .before .pre .1 .1)) in
+    (search needs, search needs, omega arith, search needs, omega (arith, within), search needs)
 
 slice-reshare-prefix-write-all : tie.Need-slice-reshare-prefix-write-all Inv-loop μ-loop
 slice-reshare-prefix-write-all c = search needs
@@ -91,9 +100,9 @@ all-events-spec =
     read-full-requires
     loop-holds
     add-n
-    slice-reshare-prefix-step-on
-    slice-aggregate-step-on
-    step-on-requires
+    slice-reshare-prefix-step-accepted
+    slice-aggregate-step-accepted
+    step-accepted-requires
     room-requires
     slice-read-put-line
     put-line-requires

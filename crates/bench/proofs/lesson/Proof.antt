@@ -2,7 +2,7 @@ use native.Mathlib.Omega.{arith}
 use mathlib.Core.Path.{sym}
 use lib.Seq.{length-take-le}
 use Rattle.stream.specs.Refusal.{image-refused}
-use Rattle.stream.proofs.Lines.{refusal-small, start-within}
+use Rattle.stream.proofs.JoinedTexts.{refusal-small, start-within}
 use borrow.Author.Needs.{needs}
 use Rattle.bench.proofs.lesson.Statement.{statement}
 use Rattle.bench.proofs.lesson.Tie as tie

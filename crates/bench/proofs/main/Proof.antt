@@ -1,8 +1,8 @@
 use native.Mathlib.Omega.{arith}
 use mathlib.Core.Path.{sym}
 use lib.Seq.{length-take-le}
-use Rattle.bench.specs.Lines.{heading}
-use Rattle.stream.proofs.Lines.{start-within}
+use Rattle.stream.specs.PrintedLines.{heading}
+use Rattle.stream.proofs.JoinedTexts.{start-within}
 use borrow.Author.Needs.{needs}
 use Rattle.bench.proofs.main.Statement.{statement}
 use Rattle.bench.proofs.main.Tie as tie

@@ -1,6 +1,6 @@
 use Prim.Native.Nat.{_+_}
 use lib.ListN.{length}
-use Rattle.bench.specs.Lines.{longest-line}
+use Rattle.stream.specs.PrintedLines.{longest-line}
 use native.Mathlib.Omega.{arith}
 use mathlib.Core.Path.{sym}
 use borrow.Author.Tests.{le-leb, lt-leb}

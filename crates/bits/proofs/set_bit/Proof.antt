@@ -1,5 +1,5 @@
 use borrow.Author.Needs.{needs}
-use Rattle.bits.proofs.Laws.{or-put}
+use Rattle.bits.proofs.BitLaws.{or-put}
 use Rattle.bits.proofs.set_bit.Statement.{statement}
 use Rattle.bits.proofs.set_bit.Tie as tie
 use Rattle.bits.proofs.set_bit.Reads as reads

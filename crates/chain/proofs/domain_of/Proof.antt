@@ -4,13 +4,16 @@ use Prim.Native.Nat.{_≤_, _-_}
 use mathlib.Core.Path.{_≡_, refl}
 use lib.ListN.{length}
 use Rattle.records.specs.Phone.{decode}
-use Rattle.chain.specs.Keys.{holder}
-use Rattle.chain.proofs.Holders.{holder-from, holder-start, holder-here, holder-next, holder-none}
+use Rattle.chain.specs.SlotWords.{holder}
+use Rattle.chain.proofs.FirstHolder.{holder-from, holder-start, holder-here, holder-next, holder-none}
 use Rattle.chain.proofs.domain_of.Statement.{statement}
 use Rattle.chain.proofs.domain_of.Tie as tie
 
 abbrev Inv-loop : tie.InvT-loop
-Inv-loop s key slots j₀ j = (j ≤ slots) × (slots ≡ length (decode s .trust .certificates)) × (holder-from (decode s .trust) key j ≡ holder (decode s .trust) key)
+Inv-loop s key slots j₀ j =
+    (j ≤ slots)
+    × (slots ≡ length (decode s .trust .certificates))
+    × (holder-from (decode s .trust) key j ≡ holder (decode s .trust) key)
 
 abbrev μ-loop : tie.MeasureT-loop
 μ-loop s key slots j₀ j = slots - j

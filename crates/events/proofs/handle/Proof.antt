@@ -13,7 +13,7 @@ refused-requires : tie.Need-refused-requires
 refused-requires c κs = search needs
 
 returns : tie.Need-returns
-returns c = no-such-actor _ (event-read (c .before .before .before .before .before .args .v .now) 0) (omega arith) _ (c .refused .ensures)
+returns c = no-such-actor (omega arith) (c .refused .ensures)
 
 kind-requires : tie.Need-kind-requires
 kind-requires c κs = search needs
@@ -115,97 +115,140 @@ same-length : tie.Need-same-length
 same-length c = search needs
 
 returns-2 : tie.Need-returns-2
-returns-2 c = read-of-kind _ (c .before .before .before .read .ensures) _ 1 _ _ (c .before .before .before .before .before .before .kind .ensures) (c .before .before .before .before .before .match .keys1) (c .before .before .clock .ensures)
+returns-2 c =
+    let d = c .before .before in
+    let k = d .before .before .before in
+    read-of-kind _ (d .before .read .ensures) 1 (k .before .kind .ensures) (k .match .keys1) (d .clock .ensures)
 
 same-length-2 : tie.Need-same-length-2
 same-length-2 c = search needs
 
 returns-3 : tie.Need-returns-3
-returns-3 c = read-of-kind _ (c .before .before .before .read2 .ensures) _ 2 _ _ (c .before .before .before .before .before .before .kind .ensures) (c .before .before .before .before .before .match .keys2) (c .before .before .card-in .ensures)
+returns-3 c =
+    let d = c .before .before in
+    let k = d .before .before .before in
+    read-of-kind _ (d .before .read2 .ensures) 2 (k .before .kind .ensures) (k .match .keys2) (d .card-in .ensures)
 
 same-length-3 : tie.Need-same-length-3
 same-length-3 c = search needs
 
 returns-4 : tie.Need-returns-4
-returns-4 c = read-of-kind _ (c .before .before .before .read3 .ensures) _ 3 _ _ (c .before .before .before .before .before .before .kind .ensures) (c .before .before .before .before .before .match .keys3) (c .before .before .card-out .ensures)
+returns-4 c =
+    let d = c .before .before in
+    let k = d .before .before .before in
+    read-of-kind _ (d .before .read3 .ensures) 3 (k .before .kind .ensures) (k .match .keys3) (d .card-out .ensures)
 
 same-length-4 : tie.Need-same-length-4
 same-length-4 c = search needs
 
 returns-5 : tie.Need-returns-5
-returns-5 c = read-of-kind _ (c .before .before .before .read4 .ensures) _ 4 _ _ (c .before .before .before .before .before .before .kind .ensures) (c .before .before .before .before .before .match .keys4) (c .before .before .power-up .ensures)
+returns-5 c =
+    let d = c .before .before in
+    let k = d .before .before .before in
+    read-of-kind _ (d .before .read4 .ensures) 4 (k .before .kind .ensures) (k .match .keys4) (d .power-up .ensures)
 
 same-length-5 : tie.Need-same-length-5
 same-length-5 c = search needs
 
 returns-6 : tie.Need-returns-6
-returns-6 c = read-of-kind _ (c .before .before .before .read5 .ensures) _ 5 _ _ (c .before .before .before .before .before .before .kind .ensures) (c .before .before .before .before .before .match .keys5) (c .before .before .install-certificate .ensures)
+returns-6 c =
+    let d = c .before .before in
+    let k = d .before .before .before in
+    read-of-kind _ (d .before .read5 .ensures) 5 (k .before .kind .ensures) (k .match .keys5) (d .install-certificate .ensures)
 
 same-length-6 : tie.Need-same-length-6
 same-length-6 c = search needs
 
 returns-7 : tie.Need-returns-7
-returns-7 c = read-of-kind _ (c .before .before .before .read6 .ensures) _ 6 _ _ (c .before .before .before .before .before .before .kind .ensures) (c .before .before .before .before .before .match .keys6) (c .before .before .delete-certificate .ensures)
+returns-7 c =
+    let d = c .before .before in
+    let k = d .before .before .before in
+    read-of-kind _ (d .before .read6 .ensures) 6 (k .before .kind .ensures) (k .match .keys6) (d .delete-certificate .ensures)
 
 same-length-7 : tie.Need-same-length-7
 same-length-7 c = search needs
 
 returns-8 : tie.Need-returns-8
-returns-8 c = read-of-kind _ (c .before .before .before .read7 .ensures) _ 7 _ _ (c .before .before .before .before .before .before .kind .ensures) (c .before .before .before .before .before .match .keys7) (c .before .before .mark-valid .ensures)
+returns-8 c =
+    let d = c .before .before in
+    let k = d .before .before .before in
+    read-of-kind _ (d .before .read7 .ensures) 7 (k .before .kind .ensures) (k .match .keys7) (d .mark-valid .ensures)
 
 same-length-8 : tie.Need-same-length-8
 same-length-8 c = search needs
 
 returns-9 : tie.Need-returns-9
-returns-9 c = read-of-kind _ (c .before .before .before .read8 .ensures) _ 8 _ _ (c .before .before .before .before .before .before .kind .ensures) (c .before .before .before .before .before .match .keys8) (c .before .before .mark-invalid .ensures)
+returns-9 c =
+    let d = c .before .before in
+    let k = d .before .before .before in
+    read-of-kind _ (d .before .read8 .ensures) 8 (k .before .kind .ensures) (k .match .keys8) (d .mark-invalid .ensures)
 
 same-length-9 : tie.Need-same-length-9
 same-length-9 c = search needs
 
 returns-10 : tie.Need-returns-10
-returns-10 c = read-of-kind _ (c .before .before .before .read9 .ensures) _ 9 _ _ (c .before .before .before .before .before .before .kind .ensures) (c .before .before .before .before .before .match .keys9) (c .before .before .message .ensures)
+returns-10 c =
+    let d = c .before .before in
+    let k = d .before .before .before in
+    read-of-kind _ (d .before .read9 .ensures) 9 (k .before .kind .ensures) (k .match .keys9) (d .message .ensures)
 
 same-length-10 : tie.Need-same-length-10
 same-length-10 c = search needs
 
 returns-11 : tie.Need-returns-11
-returns-11 c = read-of-kind _ (c .before .before .before .read10 .ensures) _ 10 _ _ (c .before .before .before .before .before .before .kind .ensures) (c .before .before .before .before .before .match .keys10) (c .before .before .install-executable .ensures)
+returns-11 c =
+    let d = c .before .before in
+    let k = d .before .before .before in
+    read-of-kind _ (d .before .read10 .ensures) 10 (k .before .kind .ensures) (k .match .keys10) (d .install-executable .ensures)
 
 same-length-11 : tie.Need-same-length-11
 same-length-11 c = search needs
 
 returns-12 : tie.Need-returns-12
-returns-12 c = read-of-kind _ (c .before .before .before .read11 .ensures) _ 11 _ _ (c .before .before .before .before .before .before .kind .ensures) (c .before .before .before .before .before .match .keys11) (c .before .before .delete-executable .ensures)
+returns-12 c =
+    let d = c .before .before in
+    let k = d .before .before .before in
+    read-of-kind _ (d .before .read11 .ensures) 11 (k .before .kind .ensures) (k .match .keys11) (d .delete-executable .ensures)
 
 same-length-12 : tie.Need-same-length-12
 same-length-12 c = search needs
 
 returns-13 : tie.Need-returns-13
-returns-13 c = read-of-kind _ (c .before .before .before .read12 .ensures) _ 12 _ _ (c .before .before .before .before .before .before .kind .ensures) (c .before .before .before .before .before .match .keys12) (c .before .before .verify .ensures)
+returns-13 c =
+    let d = c .before .before in
+    let k = d .before .before .before in
+    read-of-kind _ (d .before .read12 .ensures) 12 (k .before .kind .ensures) (k .match .keys12) (d .verify .ensures)
 
 same-length-13 : tie.Need-same-length-13
 same-length-13 c = search needs
 
 returns-14 : tie.Need-returns-14
-returns-14 c = read-of-kind _ (c .before .before .before .read13 .ensures) _ 13 _ _ (c .before .before .before .before .before .before .kind .ensures) (c .before .before .before .before .before .match .keys13) (c .before .before .give .ensures)
+returns-14 c =
+    let d = c .before .before in
+    let k = d .before .before .before in
+    read-of-kind _ (d .before .read13 .ensures) 13 (k .before .kind .ensures) (k .match .keys13) (d .give .ensures)
 
 same-length-14 : tie.Need-same-length-14
 same-length-14 c = search needs
 
 returns-15 : tie.Need-returns-15
-returns-15 c = read-of-kind _ (c .before .before .before .read14 .ensures) _ 14 _ _ (c .before .before .before .before .before .before .kind .ensures) (c .before .before .before .before .before .match .keys14) (c .before .before .withdraw .ensures)
+returns-15 c =
+    let d = c .before .before in
+    let k = d .before .before .before in
+    read-of-kind _ (d .before .read14 .ensures) 14 (k .before .kind .ensures) (k .match .keys14) (d .withdraw .ensures)
 
 same-length-15 : tie.Need-same-length-15
 same-length-15 c = search needs
 
 returns-16 : tie.Need-returns-16
-returns-16 c = read-of-kind _ (c .before .read15 .ensures) _ 15 _ _ (c .before .before .before .before .kind .ensures) (c .before .before .before .match .keys15) (c .request .ensures)
+returns-16 c =
+    let k = c .before .before .before in
+    read-of-kind _ (c .before .read15 .ensures) 15 (k .before .kind .ensures) (k .match .keys15) (c .request .ensures)
 
 returns-17 : tie.Need-returns-17
 returns-17 c =
     let i = c .before .before .kind .ensures in
-    ⊎-elim (λ z. kind-zero _ _ _ i (z .keys16) _ (c .refused2 .ensures))
-    (λ r. no-such-kind _ _ _ i (r .rest .0 .0 .0 .0 .0 .0 .0 .0 .0 .0 .0 .0 .0 .0 .0 .1) (r .rest .0 .0 .0 .0 .0 .0 .0 .0 .0 .0 .0 .0 .0 .0 .1) (r .rest .0 .0 .0 .0 .0 .0 .0 .0 .0 .0 .0 .0 .0 .1) (r .rest .0 .0 .0 .0 .0 .0 .0 .0 .0 .0 .0 .0 .1) (r .rest .0 .0 .0 .0 .0 .0 .0 .0 .0 .0 .0 .1) (r .rest .0 .0 .0 .0 .0 .0 .0 .0 .0 .0 .1) (r .rest .0 .0 .0 .0 .0 .0 .0 .0 .0 .1) (r .rest .0 .0 .0 .0 .0 .0 .0 .0 .1) (r .rest .0 .0 .0 .0 .0 .0 .0 .1) (r .rest .0 .0 .0 .0 .0 .0 .1) (r .rest .0 .0 .0 .0 .0 .1) (r .rest .0 .0 .0 .0 .1) (r .rest .0 .0 .0 .1) (r .rest .0 .0 .1) (r .rest .0 .1) _ (c .refused2 .ensures)) (c .before .match .came)
+    ⊎-elim (λ z. kind-zero i (z .keys16) (c .refused2 .ensures)) (λ r. no-such-kind i (r .rest) (c .refused2 .ensures)) (c .before .match .came)
 
 pub handle-spec : {M : Type 1} → statement M
 handle-spec =

@@ -15,14 +15,14 @@ same-length c = search needs
 returns : tie.Need-returns
 returns c = broken-stepped _ _ _ (c .before .before .before .before .«open» .ensures .answer) (c .before .before .if1 .taken) _ (c .refused-at .ensures)
 
-step-on-requires : tie.Need-step-on-requires
-step-on-requires c κs = c .before .before .before .«open» .ensures .promise (c .before .if1 .left)
+step-accepted-requires : tie.Need-step-accepted-requires
+step-accepted-requires c κs = c .before .before .before .«open» .ensures .promise (c .before .if1 .left)
 
 same-length-2 : tie.Need-same-length-2
 same-length-2 c = search needs
 
 returns-2 : tie.Need-returns-2
-returns-2 c = c .before .before .step-on .ensures .stepped
+returns-2 c = c .before .before .step-accepted .ensures .stepped
 
 pub step-spec : {M : Type 1} → statement M
 step-spec =
@@ -32,6 +32,6 @@ step-spec =
     refused-at-requires
     same-length
     returns
-    step-on-requires
+    step-accepted-requires
     same-length-2
     returns-2)

@@ -1,7 +1,8 @@
 use borrow.Author.Needs.{needs}
 use borrow.Author.Tests.{eq-eqb, ne-eqb}
 use native.Mathlib.Omega.{arith}
-use Prim.Native.Nat.{_+_, _≤_, _-_}
+use Prim.Native.Nat.{ℕ, _+_, _≤_, _-_}
+use mathlib.Core.List.{List}
 use mathlib.Core.Bool.{false}
 use mathlib.Core.Path.{_≡_, sym, ap, _∙_}
 use lib.ListN.{length, drop}
@@ -9,30 +10,49 @@ use Rattle.records.specs.Phone.{decode, no-certificate}
 use Rattle.rules.specs.Words.{any, first-place}
 use Rattle.rules.specs.Codes.{has-id}
 use Rattle.rules.proofs.Loops.{any-back, any-back-done, any-end}
-use Rattle.lookup.specs.Places.{in-another}
+use Rattle.lookup.specs.RoomForOne.{in-another}
 use Rattle.rules.proofs.Places.{place-back-here, place-back, place-back-done, place-back-end, place-none, place-some, somewhere}
-use Rattle.lookup.proofs.Rooms.{certificate-taken, certificate-elsewhere, certificate-full, certificate-free}
+use Rattle.lookup.proofs.SweptRoom.{certificate-taken, certificate-elsewhere, certificate-full, certificate-free}
 use Rattle.lookup.proofs.certificate_room.Statement.{statement}
 use Rattle.lookup.proofs.certificate_room.Tie as tie
+
+-- no slot from slot i on has the id, and none has the key in another domain
+abbrev Absent : List ℕ → ℕ → ℕ → Type 0
+Absent s id i = false ≡ any (has-id id) (drop i (decode s .trust .certificates))
+
+abbrev Alone : List ℕ → ℕ → ℕ → ℕ → Type 0
+Alone s key domain i = false ≡ any (in-another key domain) (drop i (decode s .trust .certificates))
 
 abbrev Inv-loop : tie.InvT-loop
 Inv-loop s id key domain slots slot₀ i₀ slot i =
     (i ≤ slots)
     × (slots ≡ length (decode s .trust .certificates))
-    × (false ≡ any (has-id id) (drop i (decode s .trust .certificates)))
-    × (false ≡ any (in-another key domain) (drop i (decode s .trust .certificates)))
+    × Absent s id i
+    × Alone s key domain i
     × (slot ≡ i + first-place (has-id 0) (drop i (decode s .trust .certificates)))
 
 abbrev μ-loop : tie.MeasureT-loop
 μ-loop s id key domain slots slot₀ i₀ slot i = i
+
+-- where the turn began, in which no record, or this one, has the key in another domain
+abbrev began : tie.Else2 Inv-loop μ-loop → tie.At-loop Inv-loop μ-loop
+began c = c .before .before .before .before .before .before
+
+abbrev asked : tie.Then2 Inv-loop μ-loop → tie.At-loop Inv-loop μ-loop
+asked c = c .before .before .before .before .before .before
 
 certificate-slots-requires : tie.Need-certificate-slots-requires Inv-loop μ-loop
 certificate-slots-requires c κs = search needs
 
 loop-holds : tie.Need-loop-holds Inv-loop μ-loop
 loop-holds c =
-    let n = c .certificate-slots .result in
-    (search needs, search needs, sym (any-end no-certificate _ n _ (omega arith)), sym (any-end no-certificate _ n _ (omega arith)), place-back-end _ no-certificate _ n (omega arith))
+    let n = c .certificate-slots .result in (
+      search needs,
+      search needs,
+      sym (any-end no-certificate _ n _ (omega arith)),
+      sym (any-end no-certificate _ n _ (omega arith)),
+      place-back-end _ no-certificate _ n (omega arith),
+    )
 
 sub-i : tie.Need-sub-i Inv-loop μ-loop
 sub-i c = search needs
@@ -43,7 +63,8 @@ certificate-requires c κs = search needs
 returns : tie.Need-returns Inv-loop μ-loop
 returns c =
     let i = c .before .before .before .before .loop .i - 1 in
-    certificate-taken _ _ _ _ (somewhere _ no-certificate _ i (omega arith) (eq-eqb _ _ (ap (λ x. x .id) (sym (c .before .before .certificate .ensures)) ∙ c .if1 .taken)))
+    let same = ap (λ x. x .id) (sym (c .before .before .certificate .ensures)) ∙ c .if1 .taken in
+    certificate-taken _ _ _ _ (somewhere _ no-certificate _ i (omega arith) (eq-eqb _ _ same))
 
 in-another-requires : tie.Need-in-another-requires Inv-loop μ-loop
 in-another-requires c κs = search needs
@@ -52,28 +73,35 @@ certificate-slot-requires : tie.Need-certificate-slot-requires Inv-loop μ-loop
 certificate-slot-requires c κs = search needs
 
 returns-2 : tie.Need-returns-2 Inv-loop μ-loop
-returns-2 c = certificate-taken _ _ _ _ (place-some (has-id _) _ (c .before .certificate-slot .ensures) (c .before .before .before .before .before .before .before .before .loop .inv .1) (c .if3 .taken))
+returns-2 c =
+    let z = asked (c .before .before) in
+    certificate-taken _ _ _ _ (place-some (has-id _) _ (c .before .certificate-slot .ensures) (z .loop .inv .1) (c .if3 .taken))
 
 returns-3 : tie.Need-returns-3 Inv-loop μ-loop
 returns-3 c =
-    let a = c .before .before .before .before .before .before .before .before .before .before .before .args in
-    let v = c .before .before .before .before .before .before .before .before .loop in
+    let z = asked (c .before .before) in
+    let a = z .before .before .before .args in
+    let v = z .loop in
     certificate-elsewhere _ _ _ _ (place-none (has-id _) _ (c .before .certificate-slot .ensures) (v .inv .1) (c .if3 .left))
     (somewhere (in-another (a .key) (a .domain)) no-certificate _ (v .i - 1) (omega arith)
-    (ap (in-another (a .key) (a .domain)) (sym (c .before .before .before .before .before .before .certificate .ensures)) ∙ sym (c .before .before .before .in-another .ensures) ∙ c .before .before .if2 .taken))
+    (ap (in-another (a .key) (a .domain)) (sym (c .before .before .before .before .before .before .certificate .ensures))
+    ∙ sym (c .before .before .before .in-another .ensures) ∙ c .before .before .if2 .taken))
 
--- no slot from this one on has the id
-kept : (c : tie.Else1 Inv-loop μ-loop) → let a = c .before .before .before .before .before .before .before .args in false ≡ any (has-id (a .id)) (drop (c .before .before .before .before .loop .i - 1) (decode (a .s .now) .trust .certificates))
+-- so it is from this slot on
+abbrev Kept : tie.At-loop Inv-loop μ-loop → Type 0
+Kept z = let a = z .before .before .before .args in Absent (a .s .now) (a .id) (z .loop .i - 1)
+
+kept : (c : tie.Else1 Inv-loop μ-loop) → Kept (c .before .before .before .before)
 kept c =
     let v = c .before .before .before .before .loop in
     any-back no-certificate _ (v .i - 1) _ false false {j = v .i} (v .inv .2) (omega arith) (omega arith)
     (sym (ne-eqb _ _ (λ same. c .if1 .left (ap (λ x. x .id) (c .before .before .certificate .ensures) ∙ same))))
 
--- and none has the key in another domain
-apart : (c : tie.Else2 Inv-loop μ-loop) → let a = c .before .before .before .before .before .before .before .before .before .args in false ≡ any (in-another (a .key) (a .domain)) (drop (c .before .before .before .before .before .before .loop .i - 1) (decode (a .s .now) .trust .certificates))
+apart : (c : tie.Else2 Inv-loop μ-loop) → let z = began c in let a = z .before .before .before .args in Alone (a .s .now) (a .key) (a .domain) (z .loop .i - 1)
 apart c =
-    let a = c .before .before .before .before .before .before .before .before .before .args in
-    let v = c .before .before .before .before .before .before .loop in
+    let z = began c in
+    let a = z .before .before .before .args in
+    let v = z .loop in
     any-back no-certificate _ (v .i - 1) (in-another (a .key) (a .domain)) false false {j = v .i} (v .inv .3) (omega arith) (omega arith)
     (sym (c .if2 .left) ∙ c .before .in-another .ensures ∙ ap (in-another (a .key) (a .domain)) (c .before .before .before .before .certificate .ensures))
 
@@ -82,12 +110,13 @@ loop-less c = search needs
 
 loop-again : tie.Need-loop-again Inv-loop μ-loop
 loop-again c =
-    let v = c .before .before .before .before .before .before .before .before .loop in (
+    let v = began (c .before .before) .loop in
+    let held = c .before .before .before .before .before .before .certificate .ensures in (
       omega arith,
       search needs,
       kept (c .before .before .before .before),
       apart (c .before .before),
-      place-back _ no-certificate _ (v .i - 1) (v .inv .4) (omega arith) (omega arith) (ne-eqb _ _ (λ zero. c .if4 .taken (ap (λ x. x .id) (c .before .before .before .before .before .before .certificate .ensures) ∙ zero))),
+      place-back _ no-certificate _ (v .i - 1) (v .inv .4) (omega arith) (omega arith) (ne-eqb _ _ (λ zero. c .if4 .taken (ap (λ x. x .id) held ∙ zero))),
     )
 
 loop-less-2 : tie.Need-loop-less-2 Inv-loop μ-loop
@@ -95,12 +124,13 @@ loop-less-2 c = search needs
 
 loop-again-2 : tie.Need-loop-again-2 Inv-loop μ-loop
 loop-again-2 c =
-    let v = c .before .before .before .before .before .before .before .before .loop in (
+    let v = began (c .before .before) .loop in
+    let held = c .before .before .before .before .before .before .certificate .ensures in (
       omega arith,
       search needs,
       kept (c .before .before .before .before),
       apart (c .before .before),
-      place-back-here _ no-certificate _ (v .i - 1) (omega arith) (eq-eqb _ _ (ap (λ x. x .id) (sym (c .before .before .before .before .before .before .certificate .ensures)) ∙ c .if4 .left)),
+      place-back-here _ no-certificate _ (v .i - 1) (omega arith) (eq-eqb _ _ (ap (λ x. x .id) (sym held) ∙ c .if4 .left)),
     )
 
 returns-4 : tie.Need-returns-4 Inv-loop μ-loop

@@ -1,18 +1,18 @@
 use native.Mathlib.Nat.{zero-add}
 use borrow.Author.Needs.{needs}
 use native.Mathlib.Omega.{arith}
-use Prim.Native.Nat.{_+_, _≤_, _-_}
-use lib.ListN.{length, drop}
+use Prim.Native.Nat.{_≤_, _-_}
+use lib.ListN.{length}
 use mathlib.Core.Path.{_≡_, sym, _∙_}
 use Rattle.records.specs.Phone.{decode, no-certificate}
 use Rattle.rules.specs.Codes.{has-id}
-use Rattle.rules.specs.Words.{first-place}
+use Rattle.lookup.specs.RoomForOne.{Passed}
 use Rattle.rules.proofs.Places.{place-here, place-next, place-end}
 use Rattle.lookup.proofs.certificate_slot.Statement.{statement}
 use Rattle.lookup.proofs.certificate_slot.Tie as tie
 
 abbrev Inv-loop : tie.InvT-loop
-Inv-loop s id slots i₀ i = (i ≤ slots) × (slots ≡ length (decode s .trust .certificates)) × (first-place (has-id id) (decode s .trust .certificates) ≡ i + first-place (has-id id) (drop i (decode s .trust .certificates)))
+Inv-loop s id slots i₀ i = (i ≤ slots) × (slots ≡ length (decode s .trust .certificates)) × Passed (has-id id) (decode s .trust .certificates) i
 
 abbrev μ-loop : tie.MeasureT-loop
 μ-loop s id slots i₀ i = slots - i
@@ -27,7 +27,9 @@ certificate-has-id-requires : tie.Need-certificate-has-id-requires Inv-loop μ-l
 certificate-has-id-requires c κs = search needs
 
 returns : tie.Need-returns Inv-loop μ-loop
-returns c = place-here _ no-certificate _ (c .before .before .before .loop .i) (c .before .before .before .loop .inv .2) (omega arith) (sym (c .before .certificate-has-id .ensures) ∙ c .if1 .taken)
+returns c =
+    let v = c .before .before .before .loop in
+    place-here _ no-certificate _ (v .i) (v .inv .2) (omega arith) (sym (c .before .certificate-has-id .ensures) ∙ c .if1 .taken)
 
 add-i : tie.Need-add-i Inv-loop μ-loop
 add-i c = search needs
@@ -36,7 +38,9 @@ loop-less : tie.Need-loop-less Inv-loop μ-loop
 loop-less c = search needs
 
 loop-again : tie.Need-loop-again Inv-loop μ-loop
-loop-again c = (search needs, search needs, place-next _ no-certificate _ (c .before .before .before .loop .i) (c .before .before .before .loop .inv .2) (omega arith) (sym (c .before .certificate-has-id .ensures) ∙ c .if1 .left))
+loop-again c =
+    let v = c .before .before .before .loop in
+    (search needs, search needs, place-next _ no-certificate _ (v .i) (v .inv .2) (omega arith) (sym (c .before .certificate-has-id .ensures) ∙ c .if1 .left))
 
 returns-2 : tie.Need-returns-2 Inv-loop μ-loop
 returns-2 c = (omega (arith, place-end _ no-certificate _ (c .before .loop .i) (c .before .loop .inv .2) (omega arith)))

@@ -1,17 +1,17 @@
 use borrow.Author.Needs.{needs}
 use native.Mathlib.Omega.{arith}
-use Prim.Native.Nat.{_+_, _≤_, _-_}
-use lib.ListN.{length, drop}
+use Prim.Native.Nat.{_≤_, _-_}
+use lib.ListN.{length}
 use mathlib.Core.Path.{_≡_, sym, _∙_}
 use Rattle.records.specs.Phone.{decode, no-executable}
 use Rattle.rules.specs.Codes.{is-executable}
-use Rattle.rules.specs.Words.{first-place}
+use Rattle.lookup.specs.RoomForOne.{Passed}
 use Rattle.rules.proofs.Places.{place-here, place-next, place-end}
 use Rattle.lookup.proofs.executable_from.Statement.{statement}
 use Rattle.lookup.proofs.executable_from.Tie as tie
 
 abbrev Inv-loop : tie.InvT-loop
-Inv-loop s id from slots i₀ i = (i ≤ slots) × (slots ≡ length (decode s .executables)) × (first-place (is-executable id) (decode s .executables) ≡ i + first-place (is-executable id) (drop i (decode s .executables)))
+Inv-loop s id from slots i₀ i = (i ≤ slots) × (slots ≡ length (decode s .executables)) × Passed (is-executable id) (decode s .executables) i
 
 abbrev μ-loop : tie.MeasureT-loop
 μ-loop s id from slots i₀ i = slots - i
@@ -26,7 +26,9 @@ executable-has-id-requires : tie.Need-executable-has-id-requires Inv-loop μ-loo
 executable-has-id-requires c κs = search needs
 
 returns : tie.Need-returns Inv-loop μ-loop
-returns c = place-here _ no-executable _ (c .before .before .before .loop .i) (c .before .before .before .loop .inv .2) (omega arith) (sym (c .before .executable-has-id .ensures) ∙ c .if1 .taken)
+returns c =
+    let v = c .before .before .before .loop in
+    place-here _ no-executable _ (v .i) (v .inv .2) (omega arith) (sym (c .before .executable-has-id .ensures) ∙ c .if1 .taken)
 
 add-i : tie.Need-add-i Inv-loop μ-loop
 add-i c = search needs
@@ -35,7 +37,9 @@ loop-less : tie.Need-loop-less Inv-loop μ-loop
 loop-less c = search needs
 
 loop-again : tie.Need-loop-again Inv-loop μ-loop
-loop-again c = (search needs, search needs, place-next _ no-executable _ (c .before .before .before .loop .i) (c .before .before .before .loop .inv .2) (omega arith) (sym (c .before .executable-has-id .ensures) ∙ c .if1 .left))
+loop-again c =
+    let v = c .before .before .before .loop in
+    (search needs, search needs, place-next _ no-executable _ (v .i) (v .inv .2) (omega arith) (sym (c .before .executable-has-id .ensures) ∙ c .if1 .left))
 
 returns-2 : tie.Need-returns-2 Inv-loop μ-loop
 returns-2 c = (omega (arith, place-end _ no-executable _ (c .before .loop .i) (c .before .loop .inv .2) (omega arith)))

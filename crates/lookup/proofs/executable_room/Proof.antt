@@ -1,7 +1,8 @@
 use borrow.Author.Needs.{needs}
 use borrow.Author.Tests.{not-true, not-false}
 use native.Mathlib.Omega.{arith}
-use Prim.Native.Nat.{_+_, _≤_, _-_}
+use Prim.Native.Nat.{ℕ, _+_, _≤_, _-_}
+use mathlib.Core.List.{List}
 use mathlib.Core.Bool.{false}
 use mathlib.Core.Path.{_≡_, sym, _∙_}
 use lib.ListN.{length, drop}
@@ -10,15 +11,19 @@ use Rattle.rules.specs.Words.{any, first-place}
 use Rattle.rules.specs.Codes.{is-executable}
 use Rattle.rules.proofs.Loops.{any-back, any-back-done, any-end}
 use Rattle.rules.proofs.Places.{place-back-here, place-back, place-back-done, place-back-end, somewhere}
-use Rattle.lookup.proofs.Rooms.{executable-taken, executable-full, executable-free}
+use Rattle.lookup.proofs.SweptRoom.{executable-taken, executable-full, executable-free}
 use Rattle.lookup.proofs.executable_room.Statement.{statement}
 use Rattle.lookup.proofs.executable_room.Tie as tie
+
+-- no slot from slot i on has the id
+abbrev Absent : List ℕ → ℕ → ℕ → Type 0
+Absent s id i = false ≡ any (is-executable id) (drop i (decode s .executables))
 
 abbrev Inv-loop : tie.InvT-loop
 Inv-loop s id slots slot₀ i₀ slot i =
     (i ≤ slots)
     × (slots ≡ length (decode s .executables))
-    × (false ≡ any (is-executable id) (drop i (decode s .executables)))
+    × Absent s id i
     × (slot ≡ i + first-place (is-executable 0) (drop i (decode s .executables)))
 
 abbrev μ-loop : tie.MeasureT-loop
@@ -28,7 +33,9 @@ executable-slots-requires : tie.Need-executable-slots-requires Inv-loop μ-loop
 executable-slots-requires c κs = search needs
 
 loop-holds : tie.Need-loop-holds Inv-loop μ-loop
-loop-holds c = let n = c .executable-slots .result in (search needs, search needs, sym (any-end no-executable _ n _ (omega arith)), place-back-end _ no-executable _ n (omega arith))
+loop-holds c =
+    let n = c .executable-slots .result in
+    (search needs, search needs, sym (any-end no-executable _ n _ (omega arith)), place-back-end _ no-executable _ n (omega arith))
 
 sub-i : tie.Need-sub-i Inv-loop μ-loop
 sub-i c = search needs
@@ -44,22 +51,27 @@ returns c =
 executable-has-id-requires-2 : tie.Need-executable-has-id-requires-2 Inv-loop μ-loop
 executable-has-id-requires-2 c κs = search needs
 
--- no slot from this one on has the id
-kept : (c : tie.Else1 Inv-loop μ-loop) → let a = c .before .before .before .before .before .before .args in false ≡ any (is-executable (a .id)) (drop (c .before .before .before .loop .i - 1) (decode (a .s .now) .executables))
+-- so it is from this slot on
+abbrev Kept : tie.At-loop Inv-loop μ-loop → Type 0
+Kept z = let a = z .before .before .before .args in Absent (a .s .now) (a .id) (z .loop .i - 1)
+
+kept : (c : tie.Else1 Inv-loop μ-loop) → Kept (c .before .before .before)
 kept c =
     let v = c .before .before .before .loop in
-    any-back no-executable _ (v .i - 1) _ false false {j = v .i} (v .inv .2) (omega arith) (omega arith) (sym (c .if1 .left) ∙ c .before .executable-has-id .ensures)
+    let other = sym (c .if1 .left) ∙ c .before .executable-has-id .ensures in
+    any-back no-executable _ (v .i - 1) _ false false {j = v .i} (v .inv .2) (omega arith) (omega arith) other
 
 loop-less : tie.Need-loop-less Inv-loop μ-loop
 loop-less c = search needs
 
 loop-again : tie.Need-loop-again Inv-loop μ-loop
 loop-again c =
-    let v = c .before .before .before .before .before .loop in (
+    let v = c .before .before .before .before .before .loop in
+    let used = sym (c .before .executable-has-id2 .ensures) ∙ not-true _ (c .if2 .taken) in (
       search needs,
       search needs,
       kept (c .before .before),
-      place-back _ no-executable _ (v .i - 1) (v .inv .3) (omega arith) (omega arith) (sym (c .before .executable-has-id2 .ensures) ∙ not-true _ (c .if2 .taken)),
+      place-back _ no-executable _ (v .i - 1) (v .inv .3) (omega arith) (omega arith) used,
     )
 
 loop-less-2 : tie.Need-loop-less-2 Inv-loop μ-loop
@@ -77,12 +89,20 @@ loop-again-2 c =
 returns-2 : tie.Need-returns-2 Inv-loop μ-loop
 returns-2 c =
     let v = c .before .before .loop in
-    executable-full _ _ (sym (any-back-done no-executable _ (v .i) _ (v .inv .2) (omega arith))) (place-back-done _ no-executable _ (v .i) (v .inv .3) (omega arith)) (v .inv .1) (c .if3 .taken)
+    executable-full _ _
+    (sym (any-back-done no-executable _ (v .i) _ (v .inv .2) (omega arith)))
+    (place-back-done _ no-executable _ (v .i) (v .inv .3) (omega arith))
+    (v .inv .1)
+    (c .if3 .taken)
 
 returns-3 : tie.Need-returns-3 Inv-loop μ-loop
 returns-3 c =
     let v = c .before .before .loop in
-    executable-free _ _ (sym (any-back-done no-executable _ (v .i) _ (v .inv .2) (omega arith))) (place-back-done _ no-executable _ (v .i) (v .inv .3) (omega arith)) (v .inv .1) (c .if3 .left)
+    executable-free _ _
+    (sym (any-back-done no-executable _ (v .i) _ (v .inv .2) (omega arith)))
+    (place-back-done _ no-executable _ (v .i) (v .inv .3) (omega arith))
+    (v .inv .1)
+    (c .if3 .left)
 
 pub executable-room-spec : {M : Type 1} → statement M
 executable-room-spec =

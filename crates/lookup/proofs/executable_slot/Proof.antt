@@ -2,22 +2,17 @@ use native.Mathlib.Nat.{zero-add}
 use borrow.Author.Needs.{needs}
 use native.Mathlib.Omega.{arith}
 use Prim.Native.Nat.{ℕ, _+_, _≤_, _-_}
-use mathlib.Core.List.{List}
-use lib.ListN.{length, drop}
+use lib.ListN.{length}
 use mathlib.Core.Path.{_≡_, sym, _∙_}
 use Rattle.records.specs.Phone.{decode, no-executable}
 use Rattle.rules.specs.Codes.{is-executable}
-use Rattle.rules.specs.Words.{first-place}
+use Rattle.lookup.specs.RoomForOne.{Passed}
 use Rattle.rules.proofs.Places.{place-here, place-next, place-past}
 use Rattle.lookup.proofs.executable_slot.Statement.{statement}
 use Rattle.lookup.proofs.executable_slot.Tie as tie
 
--- no slot before j has the id
-abbrev Passed : List ℕ → ℕ → ℕ → Type 0
-Passed s id j = first-place (is-executable id) (decode s .executables) ≡ j + first-place (is-executable id) (drop j (decode s .executables))
-
 abbrev Inv-loop : tie.InvT-loop
-Inv-loop s id slots i₀ i = (i ≤ slots) × (slots ≡ length (decode s .executables)) × Passed s id i
+Inv-loop s id slots i₀ i = (i ≤ slots) × (slots ≡ length (decode s .executables)) × Passed (is-executable id) (decode s .executables) i
 
 abbrev μ-loop : tie.MeasureT-loop
 μ-loop s id slots i₀ i = slots - i
@@ -39,25 +34,41 @@ returns c =
     let v = c .before .before .before .loop in
     place-here _ no-executable _ (v .i) (v .inv .2) (omega arith) (sym (c .before .executable-has-id .ensures) ∙ c .if1 .taken)
 
+-- where a turn began, and that so many slots from there on do not have the id
+abbrev turn-1 : tie.Else1 Inv-loop μ-loop → tie.At-loop Inv-loop μ-loop
+turn-1 c = c .before .before .before
+
+abbrev turn-2 : tie.Else2 Inv-loop μ-loop → tie.At-loop Inv-loop μ-loop
+turn-2 c = turn-1 (c .before .before)
+
+abbrev turn-3 : tie.Else3 Inv-loop μ-loop → tie.At-loop Inv-loop μ-loop
+turn-3 c = turn-2 (c .before .before)
+
+abbrev turn-4 : tie.Else4 Inv-loop μ-loop → tie.At-loop Inv-loop μ-loop
+turn-4 c = turn-3 (c .before .before)
+
+abbrev Past : tie.At-loop Inv-loop μ-loop → ℕ → Type 0
+Past z n = let a = z .before .before .before .args in Passed (is-executable (a .id)) (decode (a .s .now) .executables) (z .loop .i + n)
+
 -- four slots, one after the other
-one : (c : tie.Else1 Inv-loop μ-loop) → let z = c .before .before .before in let a = z .before .before .before .args in Passed (a .s .now) (a .id) (z .loop .i + 1)
+one : (c : tie.Else1 Inv-loop μ-loop) → Past (turn-1 c) 1
 one c =
-    let v = c .before .before .before .loop in
+    let v = turn-1 c .loop in
     place-next _ no-executable _ (v .i) (v .inv .2) (omega arith) (sym (c .before .executable-has-id .ensures) ∙ c .if1 .left)
 
-two : (c : tie.Else2 Inv-loop μ-loop) → let z = c .before .before .before .before .before in let a = z .before .before .before .args in Passed (a .s .now) (a .id) (z .loop .i + 2)
+two : (c : tie.Else2 Inv-loop μ-loop) → Past (turn-2 c) 2
 two c =
-    let i = c .before .before .before .before .before .loop .i in
+    let i = turn-2 c .loop .i in
     place-past _ no-executable _ (i + 1) (omega arith) (one (c .before .before)) (omega arith) (sym (c .before .executable-has-id2 .ensures) ∙ c .if2 .left)
 
-three : (c : tie.Else3 Inv-loop μ-loop) → let z = c .before .before .before .before .before .before .before in let a = z .before .before .before .args in Passed (a .s .now) (a .id) (z .loop .i + 3)
+three : (c : tie.Else3 Inv-loop μ-loop) → Past (turn-3 c) 3
 three c =
-    let i = c .before .before .before .before .before .before .before .loop .i in
+    let i = turn-3 c .loop .i in
     place-past _ no-executable _ (i + 2) (omega arith) (two (c .before .before)) (omega arith) (sym (c .before .executable-has-id3 .ensures) ∙ c .if3 .left)
 
-four : (c : tie.Else4 Inv-loop μ-loop) → let z = c .before .before .before .before .before .before .before .before .before in let a = z .before .before .before .args in Passed (a .s .now) (a .id) (z .loop .i + 4)
+four : (c : tie.Else4 Inv-loop μ-loop) → Past (turn-4 c) 4
 four c =
-    let i = c .before .before .before .before .before .before .before .before .before .loop .i in
+    let i = turn-4 c .loop .i in
     place-past _ no-executable _ (i + 3) (omega arith) (three (c .before .before)) (omega arith) (sym (c .before .executable-has-id4 .ensures) ∙ c .if4 .left)
 
 add-executable-has-id : tie.Need-add-executable-has-id Inv-loop μ-loop
@@ -85,7 +96,7 @@ add-result-2 c = search needs
 
 returns-3 : tie.Need-returns-3 Inv-loop μ-loop
 returns-3 c =
-    let i = c .before .before .before .before .before .before .before .loop .i in
+    let i = turn-2 (c .before .before) .loop .i in
     place-here _ no-executable _ (i + 2) (two (c .before .before)) (omega arith) (sym (c .before .executable-has-id3 .ensures) ∙ c .if3 .taken)
 
 add-executable-has-id-3 : tie.Need-add-executable-has-id-3 Inv-loop μ-loop
@@ -99,7 +110,7 @@ add-result-3 c = search needs
 
 returns-4 : tie.Need-returns-4 Inv-loop μ-loop
 returns-4 c =
-    let i = c .before .before .before .before .before .before .before .before .before .loop .i in
+    let i = turn-3 (c .before .before) .loop .i in
     place-here _ no-executable _ (i + 3) (three (c .before .before)) (omega arith) (sym (c .before .executable-has-id4 .ensures) ∙ c .if4 .taken)
 
 add-i : tie.Need-add-i Inv-loop μ-loop

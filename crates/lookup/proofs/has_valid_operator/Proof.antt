@@ -1,19 +1,31 @@
 use borrow.Author.Needs.{needs}
 use native.Mathlib.Omega.{arith}
-use Prim.Native.Nat.{_≤_, _-_}
+use Prim.Native.Nat.{ℕ, _≤_, _-_}
+use mathlib.Core.List.{List}
 use lib.ListN.{length, drop}
 use mathlib.Core.Path.{_≡_, refl, sym, ap, _∙_}
-use mathlib.Core.Bool.{_&&_}
+use mathlib.Core.Bool.{Bool, _&&_}
 use lib.Dec.{eqb}
 use Rattle.records.specs.Phone.{decode, no-certificate}
+use Rattle.records.specs.declared.Certificate.{Certificate}
 use Rattle.rules.specs.Words.{any}
 use Rattle.rules.specs.ImageRules.{valid-in, has-valid-operator}
 use Rattle.rules.proofs.Loops.{any-stops, any-goes-on, any-fails}
 use Rattle.lookup.proofs.has_valid_operator.Statement.{statement}
 use Rattle.lookup.proofs.has_valid_operator.Tie as tie
 
+-- a valid operator root in the place, and whether one of the list is it
+abbrev asked : ℕ → ℕ → Certificate → Bool
+asked clock place x = valid-in 1 clock x && eqb (x .place) place
+
+abbrev some : List ℕ → ℕ → List Certificate → Bool
+some s place l = any (asked (decode s .trust .seen .clock) place) l
+
 abbrev Inv-loop : tie.InvT-loop
-Inv-loop s place slots i₀ i = (i ≤ slots) × (slots ≡ length (decode s .trust .certificates)) × (any (λ x. valid-in 1 (decode s .trust .seen .clock) x && eqb (x .place) place) (drop i (decode s .trust .certificates)) ≡ any (λ x. valid-in 1 (decode s .trust .seen .clock) x && eqb (x .place) place) (decode s .trust .certificates))
+Inv-loop s place slots i₀ i =
+    (i ≤ slots)
+    × (slots ≡ length (decode s .trust .certificates))
+    × (some s place (drop i (decode s .trust .certificates)) ≡ some s place (decode s .trust .certificates))
 
 abbrev μ-loop : tie.MeasureT-loop
 μ-loop s place slots i₀ i = slots - i
@@ -36,9 +48,11 @@ valid-operator-requires c κs = search needs
 returns : tie.Need-returns Inv-loop μ-loop
 unfolding has-valid-operator
 returns c =
-    let v = c .before .before .before .before .before .loop in
-    let a = c .before .before .before .before .before .before .before .before .args in
-    any-stops no-certificate _ (v .i) (λ x. valid-in 1 (decode (a .s .now) .trust .seen .clock) x && eqb (x .place) (a .place)) _ (v .inv .2) (omega arith) (c .before .before .certificate .ensures) (ap (λ k. valid-in 1 k (c .before .before .certificate .result) && eqb (c .before .before .certificate .result .place) (a .place)) (sym (c .before .before .before .clock .ensures)) ∙ sym (c .before .valid-operator .ensures) ∙ c .if1 .taken)
+    let z = c .before .before .before .before .before in
+    let a = z .before .before .before .args in
+    let at-clock = ap (λ k. asked k (a .place) (c .before .before .certificate .result)) (sym (c .before .before .before .clock .ensures)) in
+    any-stops no-certificate _ (z .loop .i) (asked (decode (a .s .now) .trust .seen .clock) (a .place)) _ (z .loop .inv .2) (omega arith)
+    (c .before .before .certificate .ensures) (at-clock ∙ sym (c .before .valid-operator .ensures) ∙ c .if1 .taken)
 
 add-i : tie.Need-add-i Inv-loop μ-loop
 add-i c = search needs
@@ -48,15 +62,19 @@ loop-less c = search needs
 
 loop-again : tie.Need-loop-again Inv-loop μ-loop
 loop-again c =
-    let v = c .before .before .before .before .before .loop in
-    let a = c .before .before .before .before .before .before .before .before .args in
-    (search needs, search needs, any-goes-on no-certificate _ (v .i) (λ x. valid-in 1 (decode (a .s .now) .trust .seen .clock) x && eqb (x .place) (a .place)) _ (v .inv .2) (omega arith) (c .before .before .certificate .ensures) (ap (λ k. valid-in 1 k (c .before .before .certificate .result) && eqb (c .before .before .certificate .result .place) (a .place)) (sym (c .before .before .before .clock .ensures)) ∙ sym (c .before .valid-operator .ensures) ∙ c .if1 .left))
+    let z = c .before .before .before .before .before in
+    let a = z .before .before .before .args in
+    let at-clock = ap (λ k. asked k (a .place) (c .before .before .certificate .result)) (sym (c .before .before .before .clock .ensures)) in
+    let test = at-clock ∙ sym (c .before .valid-operator .ensures) ∙ c .if1 .left in
+    let f = asked (decode (a .s .now) .trust .seen .clock) (a .place) in
+    (search needs, search needs, any-goes-on no-certificate _ (z .loop .i) f _ (z .loop .inv .2) (omega arith) (c .before .before .certificate .ensures) test)
 
 returns-2 : tie.Need-returns-2 Inv-loop μ-loop
 unfolding has-valid-operator
 returns-2 c =
-    let a = c .before .before .before .before .args in
-    any-fails no-certificate _ (c .before .loop .i) (λ x. valid-in 1 (decode (a .s .now) .trust .seen .clock) x && eqb (x .place) (a .place)) _ (c .before .loop .inv .2) (omega arith)
+    let z = c .before in
+    let a = z .before .before .before .args in
+    any-fails no-certificate _ (z .loop .i) (asked (decode (a .s .now) .trust .seen .clock) (a .place)) _ (z .loop .inv .2) (omega arith)
 
 pub has-valid-operator-spec : {M : Type 1} → statement M
 has-valid-operator-spec =

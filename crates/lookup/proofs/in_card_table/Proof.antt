@@ -1,19 +1,27 @@
 use borrow.Author.Needs.{needs}
 use native.Mathlib.Omega.{arith}
-use Prim.Native.Nat.{_≤_, _-_}
+use Prim.Native.Nat.{ℕ, _≤_, _-_}
+use mathlib.Core.Bool.{Bool}
 use lib.ListN.{length, drop}
-use mathlib.Core.Path.{_≡_, refl, sym, ap, _∙_}
+use mathlib.Core.Path.{_≡_, refl}
 use lib.Dec.{eqb}
 use borrow.Author.Tests.{eq-eqb, ne-eqb}
 use Rattle.records.specs.Phone.{decode, no-card}
+use Rattle.records.specs.declared.Card.{Card}
 use Rattle.rules.specs.Words.{any}
 use Rattle.rules.specs.ImageRules.{in-card-table}
-use Rattle.rules.proofs.Loops.{any-here, any-next, any-end}
+use Rattle.rules.proofs.Loops.{any-stops, any-goes-on, any-fails}
 use Rattle.lookup.proofs.in_card_table.Statement.{statement}
 use Rattle.lookup.proofs.in_card_table.Tie as tie
 
+abbrev numbered : ℕ → Card → Bool
+numbered n k = eqb (k .number) n
+
 abbrev Inv-loop : tie.InvT-loop
-Inv-loop s n cards i₀ i = (i ≤ cards) × (cards ≡ length (decode s .cards)) × (any (λ k. eqb (k .number) n) (drop i (decode s .cards)) ≡ any (λ k. eqb (k .number) n) (decode s .cards))
+Inv-loop s n cards i₀ i =
+    (i ≤ cards)
+    × (cards ≡ length (decode s .cards))
+    × (any (numbered n) (drop i (decode s .cards)) ≡ any (numbered n) (decode s .cards))
 
 abbrev μ-loop : tie.MeasureT-loop
 μ-loop s n cards i₀ i = cards - i
@@ -29,7 +37,10 @@ card-requires c κs = search needs
 
 returns : tie.Need-returns Inv-loop μ-loop
 unfolding in-card-table
-returns c = sym (any-here no-card _ (c .before .before .before .before .loop .i) (λ k. eqb (k .number) (c .before .before .before .before .before .before .before .args .n)) (omega arith) (ap (λ k. eqb (k .number) (c .before .before .before .before .before .before .before .args .n)) (sym (c .before .before .card .ensures)) ∙ eq-eqb _ _ (c .if1 .taken))) ∙ c .before .before .before .before .loop .inv .2
+returns c =
+    let z = c .before .before .before .before in
+    let f = numbered (z .before .before .before .args .n) in
+    any-stops no-card _ (z .loop .i) f _ (z .loop .inv .2) (omega arith) (c .before .before .card .ensures) (eq-eqb _ _ (c .if1 .taken))
 
 add-i : tie.Need-add-i Inv-loop μ-loop
 add-i c = search needs
@@ -38,11 +49,17 @@ loop-less : tie.Need-loop-less Inv-loop μ-loop
 loop-less c = search needs
 
 loop-again : tie.Need-loop-again Inv-loop μ-loop
-loop-again c = (search needs, search needs, sym (any-next no-card _ (c .before .before .before .before .loop .i) (λ k. eqb (k .number) (c .before .before .before .before .before .before .before .args .n)) (omega arith) (ap (λ k. eqb (k .number) (c .before .before .before .before .before .before .before .args .n)) (sym (c .before .before .card .ensures)) ∙ ne-eqb _ _ (c .if1 .left))) ∙ c .before .before .before .before .loop .inv .2)
+loop-again c =
+    let z = c .before .before .before .before in
+    let f = numbered (z .before .before .before .args .n) in
+    let other = ne-eqb _ _ (c .if1 .left) in
+    (search needs, search needs, any-goes-on no-card _ (z .loop .i) f _ (z .loop .inv .2) (omega arith) (c .before .before .card .ensures) other)
 
 returns-2 : tie.Need-returns-2 Inv-loop μ-loop
 unfolding in-card-table
-returns-2 c = sym (any-end no-card _ (c .before .loop .i) (λ k. eqb (k .number) (c .before .before .before .before .args .n)) (omega arith)) ∙ c .before .loop .inv .2
+returns-2 c =
+    let z = c .before in
+    any-fails no-card _ (z .loop .i) (numbered (z .before .before .before .args .n)) _ (z .loop .inv .2) (omega arith)
 
 pub in-card-table-spec : {M : Type 1} → statement M
 in-card-table-spec =

@@ -1,19 +1,27 @@
 use borrow.Author.Needs.{needs}
 use native.Mathlib.Omega.{arith}
-use Prim.Native.Nat.{_≤_, _-_}
+use Prim.Native.Nat.{ℕ, _≤_, _-_}
+use mathlib.Core.Bool.{Bool}
 use lib.ListN.{length, drop}
 use mathlib.Core.Path.{_≡_, refl, sym, ap, _∙_}
 use lib.Dec.{eqb}
 use borrow.Author.Tests.{eq-eqb, ne-eqb}
 use Rattle.records.specs.Phone.{decode, no-card}
+use Rattle.records.specs.declared.Card.{Card}
 use Rattle.rules.specs.Words.{find}
 use Rattle.rules.specs.ImageRules.{operator-of}
 use Rattle.rules.proofs.Loops.{find-here, find-next, find-end}
 use Rattle.lookup.proofs.operator_of.Statement.{statement}
 use Rattle.lookup.proofs.operator_of.Tie as tie
 
+abbrev numbered : ℕ → Card → Bool
+numbered n k = eqb (k .number) n
+
 abbrev Inv-loop : tie.InvT-loop
-Inv-loop s n cards i₀ i = (i ≤ cards) × (cards ≡ length (decode s .cards)) × (find (λ k. eqb (k .number) n) no-card (drop i (decode s .cards)) ≡ find (λ k. eqb (k .number) n) no-card (decode s .cards))
+Inv-loop s n cards i₀ i =
+    (i ≤ cards)
+    × (cards ≡ length (decode s .cards))
+    × (find (numbered n) no-card (drop i (decode s .cards)) ≡ find (numbered n) no-card (decode s .cards))
 
 abbrev μ-loop : tie.MeasureT-loop
 μ-loop s n cards i₀ i = cards - i
@@ -29,7 +37,13 @@ card-requires c κs = search needs
 
 returns : tie.Need-returns Inv-loop μ-loop
 unfolding operator-of
-returns c = ap (λ k. k .operator) (c .before .before .card .ensures ∙ sym (find-here no-card _ (c .before .before .before .before .loop .i) (λ k. eqb (k .number) (c .before .before .before .before .before .before .before .args .n)) (omega arith) (ap (λ k. eqb (k .number) (c .before .before .before .before .before .before .before .args .n)) (sym (c .before .before .card .ensures)) ∙ eq-eqb _ _ (c .if1 .taken))) ∙ c .before .before .before .before .loop .inv .2)
+returns c =
+    let z = c .before .before .before .before in
+    let a = z .before .before .before .args in
+    let f = numbered (a .n) in
+    let e = c .before .before .card .ensures in
+    let here = find-here no-card (decode (a .s .now) .cards) (z .loop .i) f (omega arith) (ap f (sym e) ∙ eq-eqb _ _ (c .if1 .taken)) in
+    ap (λ k. k .operator) (e ∙ sym here ∙ z .loop .inv .2)
 
 add-i : tie.Need-add-i Inv-loop μ-loop
 add-i c = search needs
@@ -38,11 +52,21 @@ loop-less : tie.Need-loop-less Inv-loop μ-loop
 loop-less c = search needs
 
 loop-again : tie.Need-loop-again Inv-loop μ-loop
-loop-again c = (search needs, search needs, sym (find-next no-card _ (c .before .before .before .before .loop .i) (λ k. eqb (k .number) (c .before .before .before .before .before .before .before .args .n)) (omega arith) (ap (λ k. eqb (k .number) (c .before .before .before .before .before .before .before .args .n)) (sym (c .before .before .card .ensures)) ∙ ne-eqb _ _ (c .if1 .left))) ∙ c .before .before .before .before .loop .inv .2)
+loop-again c =
+    let z = c .before .before .before .before in
+    let a = z .before .before .before .args in
+    let f = numbered (a .n) in
+    let e = c .before .before .card .ensures in
+    let next = find-next no-card (decode (a .s .now) .cards) (z .loop .i) f (omega arith) (ap f (sym e) ∙ ne-eqb _ _ (c .if1 .left)) in
+    (search needs, search needs, sym next ∙ z .loop .inv .2)
 
 returns-2 : tie.Need-returns-2 Inv-loop μ-loop
 unfolding operator-of
-returns-2 c = ap (λ k. k .operator) (sym (find-end no-card _ (c .before .loop .i) (λ k. eqb (k .number) (c .before .before .before .before .args .n)) (omega arith)) ∙ c .before .loop .inv .2)
+returns-2 c =
+    let z = c .before in
+    let a = z .before .before .before .args in
+    let none = find-end no-card (decode (a .s .now) .cards) (z .loop .i) (numbered (a .n)) (omega arith) in
+    ap (λ k. k .operator) (sym none ∙ z .loop .inv .2)
 
 pub operator-of-spec : {M : Type 1} → statement M
 operator-of-spec =

@@ -1,4 +1,4 @@
-use Rattle.monitor.proofs.Runs.{count-whole, count-short}
+use Rattle.monitor.proofs.RunLaws.{count-whole, count-short}
 use borrow.Author.Needs.{needs}
 use Rattle.monitor.proofs.event_count.Statement.{statement}
 use Rattle.monitor.proofs.event_count.Tie as tie

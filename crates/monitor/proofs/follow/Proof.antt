@@ -3,8 +3,8 @@ use Prim.Native.Nat.{_-_}
 use lib.ListN.{length}
 use native.Mathlib.Omega.{arith}
 use borrow.Author.Needs.{needs}
-use Rattle.opening.specs.Opened.{Accepted-image}
-use Rattle.monitor.proofs.Runs.{Left, left-all, left-less, left-none}
+use Rattle.rules.specs.AcceptedImage.{Accepted-image}
+use Rattle.monitor.proofs.RunLaws.{Left, left-all, left-less, left-none}
 use Rattle.monitor.proofs.follow.Statement.{statement}
 use Rattle.monitor.proofs.follow.Tie as tie
 
@@ -33,8 +33,9 @@ loop-less c = search needs
 
 loop-again : tie.Need-loop-again Inv-loop μ-loop
 loop-again c =
-    let one = c .before .before .before .before .before .before .one .ensures in
-    let left = c .before .before .before .before .before .before .before .before .before .loop .inv .2 in
+    let stepped = c .before .before .before .before .before .before in
+    let one = stepped .one .ensures in
+    let left = stepped .before .before .before .loop .inv .2 in
     (search needs, one .accepted, left-less _ _ _ _ _ _ _ left (omega arith) (search needs) _ _ _ (one .stepped) (c .before .before .tell .ensures))
 
 same-length : tie.Need-same-length Inv-loop μ-loop

@@ -1,4 +1,4 @@
-use Rattle.monitor.proofs.Runs.{opened-broken, opened-whole}
+use Rattle.monitor.proofs.RunLaws.{opened-broken, opened-whole}
 use borrow.Author.Needs.{needs}
 use Rattle.monitor.proofs.monitor_open.Statement.{statement}
 use Rattle.monitor.proofs.monitor_open.Tie as tie

@@ -1,4 +1,4 @@
-use Rattle.monitor.proofs.Runs.{broken-followed, opened-accepted, within-events, within-room}
+use Rattle.monitor.proofs.RunLaws.{broken-followed, opened-accepted, within-events, within-room}
 use borrow.Author.Needs.{needs}
 use Rattle.monitor.proofs.monitor_run.Statement.{statement}
 use Rattle.monitor.proofs.monitor_run.Tie as tie

@@ -1,4 +1,4 @@
-use Rattle.monitor.proofs.Runs.{packed-stepped}
+use Rattle.monitor.proofs.RunLaws.{packed-stepped}
 use borrow.Author.Needs.{needs}
 use Rattle.monitor.proofs.monitor_step.Statement.{statement}
 use Rattle.monitor.proofs.monitor_step.Tie as tie

@@ -1,4 +1,4 @@
-use Rattle.monitor.proofs.Lines.{few-told, asked}
+use Rattle.monitor.proofs.AnswerLines.{few-told, asked}
 use borrow.Author.Needs.{needs}
 use Rattle.monitor.proofs.monitor_why.Statement.{statement}
 use Rattle.monitor.proofs.monitor_why.Tie as tie

@@ -1,5 +1,5 @@
 use native.Mathlib.Omega.{arith}
-use Rattle.octets.proofs.Laws.{low-differs}
+use Rattle.octets.proofs.ByteLaws.{low-differs}
 use borrow.Author.Needs.{needs}
 use Rattle.octets.proofs.is16.Statement.{statement}
 use Rattle.octets.proofs.is16.Tie as tie

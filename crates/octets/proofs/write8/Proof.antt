@@ -1,5 +1,5 @@
 use mathlib.Core.Path.{sym}
-use Rattle.octets.proofs.Laws.{put-none, put-next}
+use Rattle.octets.proofs.ByteLaws.{put-none, put-next}
 use native.Mathlib.Omega.{arith}
 use borrow.Author.Needs.{needs}
 use Rattle.octets.proofs.write8.Statement.{statement}

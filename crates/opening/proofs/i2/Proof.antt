@@ -1,4 +1,4 @@
-use Rattle.opening.proofs.Parts.{i2-told}
+use Rattle.opening.proofs.ByParts.{i2-told}
 use borrow.Author.Needs.{needs}
 use Rattle.opening.proofs.i2.Statement.{statement}
 use Rattle.opening.proofs.i2.Tie as tie

@@ -1,4 +1,4 @@
-use Rattle.opening.proofs.Parts.{i3-present, i3-places, i3-cards}
+use Rattle.opening.proofs.ByParts.{i3-present, i3-places, i3-cards}
 use borrow.Author.Needs.{needs}
 use Rattle.opening.proofs.i3.Statement.{statement}
 use Rattle.opening.proofs.i3.Tie as tie

@@ -1,4 +1,4 @@
-use Rattle.opening.proofs.Parts.{i4-told}
+use Rattle.opening.proofs.ByParts.{i4-told}
 use borrow.Author.Needs.{needs}
 use Rattle.opening.proofs.i4.Statement.{statement}
 use Rattle.opening.proofs.i4.Tie as tie

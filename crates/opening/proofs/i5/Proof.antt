@@ -1,4 +1,4 @@
-use Rattle.opening.proofs.Parts.{i5-told}
+use Rattle.opening.proofs.ByParts.{i5-told}
 use borrow.Author.Needs.{needs}
 use Rattle.opening.proofs.i5.Statement.{statement}
 use Rattle.opening.proofs.i5.Tie as tie

@@ -1,4 +1,4 @@
-use Rattle.opening.proofs.Parts.{i6-told}
+use Rattle.opening.proofs.ByParts.{i6-told}
 use borrow.Author.Needs.{needs}
 use Rattle.opening.proofs.i6.Statement.{statement}
 use Rattle.opening.proofs.i6.Tie as tie

@@ -1,4 +1,4 @@
-use Rattle.opening.proofs.Parts.{i7-told}
+use Rattle.opening.proofs.ByParts.{i7-told}
 use borrow.Author.Needs.{needs}
 use Rattle.opening.proofs.i7.Statement.{statement}
 use Rattle.opening.proofs.i7.Tie as tie

@@ -1,7 +1,7 @@
 use Rattle.opening.proofs.Offsets.{within, stands, there}
 use mathlib.Core.Path.{_∙_}
 use native.Mathlib.Omega.{arith}
-use Rattle.octets.proofs.Laws.{Bytes}
+use Rattle.octets.proofs.ByteLaws.{Bytes}
 use borrow.Author.Needs.{needs}
 use Rattle.opening.proofs.offset.Statement.{statement}
 use Rattle.opening.proofs.offset.Tie as tie

@@ -1,5 +1,5 @@
 use native.Mathlib.Omega.{arith}
-use Rattle.opening.proofs.Answers.{breaks-i1, is-framed, frames}
+use Rattle.opening.proofs.Opens.{breaks-i1, is-framed, frames}
 use borrow.Author.Needs.{needs}
 use Rattle.opening.proofs.open.Statement.{statement}
 use Rattle.opening.proofs.open.Tie as tie

@@ -26,10 +26,12 @@ same-length c = search needs
 
 returns : tie.Need-returns
 returns c =
-    let a = c .before .before .before .before .before .before .before .before .before .before .args in
-    let number = c .before .before .put-number .ensures in (
+    let numbered = c .before .before in
+    let spaced = numbered .before .before .before .before in
+    let a = spaced .before .before .before .before .args in
+    let number = numbered .put-number .ensures in (
       number .0
-          ∙ ap (λ (l : List ℕ). put l (a .at + 1) (decimal (a .n))) (c .before .before .before .before .before .before .put-text .ensures)
+          ∙ ap (λ (l : List ℕ). put l (a .at + 1) (decimal (a .n))) (spaced .put-text .ensures)
           ∙ put-next (a .out .now) (a .at) (32 ∷ []) (decimal (a .n)) (omega arith),
       omega (arith, number .1),
     )

@@ -25,16 +25,18 @@ put-text-requires c κs =
 
 add-result : tie.Need-add-result
 add-result c =
-    let a = c .before .before .before .before .before .before .before .before .args in
-    omega (arith, fewest-small _ (a .n) (c .before .before .before .before .before .decimal .ensures .1 .0) (omega arith))
+    let written = c .before .before .before .before .before in
+    let a = written .before .before .before .args in
+    omega (arith, fewest-small _ (a .n) (written .decimal .ensures .1 .0) (omega arith))
 
 same-length : tie.Need-same-length
 same-length c = search needs
 
 returns : tie.Need-returns
 returns c =
-    let d = c .before .before .before .before .before .decimal .ensures in
-    let a = c .before .before .before .before .before .before .before .before .args in
+    let written = c .before .before .before .before .before in
+    let d = written .decimal .ensures in
+    let a = written .before .before .before .args in
     let text = d .1 .1 ∙ decimal-is _ (a .n) (d .1 .0) (fewest-small _ (a .n) (d .1 .0) (omega arith)) in
     let count = ap length text in
     (c .before .before .put-text .ensures ∙ ap (put (a .out .now) (a .at)) text, omega (arith, d .0 .1))

@@ -1,11 +1,14 @@
 use native.Mathlib.Omega.{arith}
 use mathlib.Core.Path.{refl}
-use Rattle.stream.proofs.Lines.{column-ends, refusal-put}
+use Rattle.stream.proofs.JoinedTexts.{column-ends, refusal-put}
 use borrow.Author.Needs.{needs}
 use Rattle.stream.proofs.put_refusal.Statement.{statement}
 use Rattle.stream.proofs.put_refusal.Tie as tie
 
--- the state behind the rule's column, from that behind the offset's
+-- the state behind the offset's column, from that behind the line's end, and that behind the rule's, from that behind the offset's
+abbrev placed : tie.After-put-text2 → tie.After-put-column2
+placed c = c .before .before .before .before .before
+
 abbrev ruled : tie.After-put-column2 → tie.After-put-column
 ruled c = c .before .before .before .before
 
@@ -34,7 +37,7 @@ put-text-requires-2 c κs =
 
 add-result : tie.Need-add-result
 add-result c =
-    let to-offset = c .before .before .before .before .before .before .before in
+    let to-offset = placed (c .before .before) in
     let to-rule = ruled to-offset in
     omega (arith, column-ends _ _ (to-rule .put-column .ensures .1), column-ends _ _ (to-offset .put-column2 .ensures .1))
 
@@ -43,7 +46,7 @@ same-length c = search needs
 
 returns : tie.Need-returns
 returns c =
-    let to-offset = c .before .before .before .before .before .before .before in
+    let to-offset = placed (c .before .before) in
     let to-rule = ruled to-offset in
     let to-one = to-rule .before .before .before .before in
     let a = to-one .before .before .before .before .args in

@@ -38,7 +38,9 @@ loop-again c =
     let a = c .before .before .before .args in
     let v = c .before .before .loop in
     let e : suc (v .i) ≡ v .i + 1 = omega arith in
-    (omega arith, simp length-set (omega arith), ap (λ (o : List ℕ). set o (a .at + v .i) (getD (a .text .now) (v .i) 0)) (v .inv .2) ∙ paste-suc (a .out .now) (a .at) (a .text .now) (v .i) 0 (omega arith) (omega arith) ∙ ap (λ (n : ℕ). paste (a .out .now) (a .at) (a .text .now) n) e)
+    let written = ap (λ (o : List ℕ). set o (a .at + v .i) (getD (a .text .now) (v .i) 0)) (v .inv .2) in
+    let longer = paste-suc (a .out .now) (a .at) (a .text .now) (v .i) 0 (omega arith) (omega arith) in
+    (omega arith, simp length-set (omega arith), written ∙ longer ∙ ap (λ (n : ℕ). paste (a .out .now) (a .at) (a .text .now) n) e)
 
 same-length : tie.Need-same-length Inv-loop μ-loop
 same-length c = omega arith

@@ -1,21 +1,28 @@
 use mathlib.Core.Path.{_≡_}
-use borrow.Author.Needs.{needs}
 use lib.ListN.{length}
 use Prim.Native.Nat.{_-_, _≤_}
+use borrow.Author.Needs.{needs}
 use Rattle.vectors.proofs.all_cases.Statement.{statement}
 use Rattle.vectors.proofs.all_cases.Tie as tie
 
 abbrev Inv-loop : tie.InvT-loop
-Inv-loop list every-way first₀ image₀ events₀ want₀ fin₀ answers₀ seen₀ run₀ differing₀ i₀ t14 t15 first image events want fin answers seen run differing i = (length first ≡ length first₀) × (length image ≡ length image₀) × (length events ≡ length events₀) × (length want ≡ length want₀) × (length fin ≡ length fin₀) × (length answers ≡ length answers₀) × (length seen ≡ length seen₀) × (i ≤ length list) × (differing ≤ run) × (run ≤ 1000000)
+Inv-loop list every-way seen₀ run₀ differing₀ i₀ t9 t10 seen run differing i =
+    (length seen ≡ length seen₀) × (i ≤ length list) × (differing ≤ run) × (run ≤ 1000000)
 
 abbrev μ-loop : tie.MeasureT-loop
-μ-loop list every-way first₀ image₀ events₀ want₀ fin₀ answers₀ seen₀ run₀ differing₀ i₀ t14 t15 first image events want fin answers seen run differing i = 1000000 - run
+μ-loop list every-way seen₀ run₀ differing₀ i₀ t9 t10 seen run differing i = 1000000 - run
 
 loop-holds : tie.Need-loop-holds Inv-loop μ-loop
 loop-holds c = search needs
 
-word-end-requires : tie.Need-word-end-requires Inv-loop μ-loop
-word-end-requires c κs = search needs
+find-requires : tie.Need-find-requires Inv-loop μ-loop
+find-requires c κs = search needs
+
+find-requires-2 : tie.Need-find-requires-2 Inv-loop μ-loop
+find-requires-2 c κs = search needs
+
+least-requires : tie.Need-least-requires Inv-loop μ-loop
+least-requires c κs = search needs
 
 sub-case : tie.Need-sub-case Inv-loop μ-loop
 sub-case c = search needs
@@ -29,17 +36,14 @@ part-case-end c = search needs
 case-requires : tie.Need-case-requires Inv-loop μ-loop
 case-requires c κs = search needs
 
-one-if-any-requires : tie.Need-one-if-any-requires Inv-loop μ-loop
-one-if-any-requires c κs = search needs
+one-if-requires : tie.Need-one-if-requires Inv-loop μ-loop
+one-if-requires c κs = search needs
 
 add-differing : tie.Need-add-differing Inv-loop μ-loop
 add-differing c = search needs
 
 add-run : tie.Need-add-run Inv-loop μ-loop
 add-run c = search needs
-
-find-requires : tie.Need-find-requires Inv-loop μ-loop
-find-requires c κs = search needs
 
 after-requires : tie.Need-after-requires Inv-loop μ-loop
 after-requires c κs = search needs
@@ -71,24 +75,6 @@ say-requires-2 c κs = search needs
 same-length : tie.Need-same-length Inv-loop μ-loop
 same-length c = search needs
 
-same-length-2 : tie.Need-same-length-2 Inv-loop μ-loop
-same-length-2 c = search needs
-
-same-length-3 : tie.Need-same-length-3 Inv-loop μ-loop
-same-length-3 c = search needs
-
-same-length-4 : tie.Need-same-length-4 Inv-loop μ-loop
-same-length-4 c = search needs
-
-same-length-5 : tie.Need-same-length-5 Inv-loop μ-loop
-same-length-5 c = search needs
-
-same-length-6 : tie.Need-same-length-6 Inv-loop μ-loop
-same-length-6 c = search needs
-
-same-length-7 : tie.Need-same-length-7 Inv-loop μ-loop
-same-length-7 c = search needs
-
 returns : tie.Need-returns Inv-loop μ-loop
 returns c = search needs
 
@@ -99,15 +85,16 @@ all-cases-spec =
     Inv-loop
     μ-loop
     loop-holds
-    word-end-requires
+    find-requires
+    find-requires-2
+    least-requires
     sub-case
     part-case-start
     part-case-end
     case-requires
-    one-if-any-requires
+    one-if-requires
     add-differing
     add-run
-    find-requires
     after-requires
     loop-less
     loop-again
@@ -118,10 +105,4 @@ all-cases-spec =
     slice-aggregate-say-2
     say-requires-2
     same-length
-    same-length-2
-    same-length-3
-    same-length-4
-    same-length-5
-    same-length-6
-    same-length-7
     returns)

@@ -34,53 +34,26 @@ tell-case-requires-2 c κs = search needs
 returns-2 : tie.Need-returns-2
 returns-2 c = search needs
 
+large-buffer-requires : tie.Need-large-buffer-requires
+large-buffer-requires c κs = search needs
+
+slice-aggregate-read-rest : tie.Need-slice-aggregate-read-rest
+slice-aggregate-read-rest c = search needs
+
 read-rest-requires : tie.Need-read-rest-requires
 read-rest-requires c κs = search needs
 
-slice-aggregate-open-part-3 : tie.Need-slice-aggregate-open-part-3
-slice-aggregate-open-part-3 c = search needs
-
-open-part-requires-3 : tie.Need-open-part-requires-3
-open-part-requires-3 c κs = search needs
-
-read-rest-requires-2 : tie.Need-read-rest-requires-2
-read-rest-requires-2 c κs = search needs
-
-slice-reshare-prefix-stream-differs : tie.Need-slice-reshare-prefix-stream-differs
-slice-reshare-prefix-stream-differs c = search needs
+array-share-prefix-want : tie.Need-array-share-prefix-want
+array-share-prefix-want c = search needs
 
 slice-aggregate-stream-differs : tie.Need-slice-aggregate-stream-differs
 slice-aggregate-stream-differs c = sym (length-take-le _ _ (search needs))
-
-slice-reshare-prefix-stream-differs-2 : tie.Need-slice-reshare-prefix-stream-differs-2
-slice-reshare-prefix-stream-differs-2 c = search needs
-
-slice-aggregate-stream-differs-2 : tie.Need-slice-aggregate-stream-differs-2
-slice-aggregate-stream-differs-2 c = sym (length-take-le _ _ (search needs))
 
 stream-differs-requires : tie.Need-stream-differs-requires
 stream-differs-requires c κs = search needs
 
 same-length : tie.Need-same-length
 same-length c = search needs
-
-same-length-2 : tie.Need-same-length-2
-same-length-2 c = search needs
-
-same-length-3 : tie.Need-same-length-3
-same-length-3 c = search needs
-
-same-length-4 : tie.Need-same-length-4
-same-length-4 c = search needs
-
-same-length-5 : tie.Need-same-length-5
-same-length-5 c = search needs
-
-same-length-6 : tie.Need-same-length-6
-same-length-6 c = search needs
-
-same-length-7 : tie.Need-same-length-7
-same-length-7 c = search needs
 
 returns-3 : tie.Need-returns-3
 returns-3 c = search needs
@@ -99,20 +72,11 @@ case-spec =
     slice-aggregate-tell-case-2
     tell-case-requires-2
     returns-2
+    large-buffer-requires
+    slice-aggregate-read-rest
     read-rest-requires
-    slice-aggregate-open-part-3
-    open-part-requires-3
-    read-rest-requires-2
-    slice-reshare-prefix-stream-differs
+    array-share-prefix-want
     slice-aggregate-stream-differs
-    slice-reshare-prefix-stream-differs-2
-    slice-aggregate-stream-differs-2
     stream-differs-requires
     same-length
-    same-length-2
-    same-length-3
-    same-length-4
-    same-length-5
-    same-length-6
-    same-length-7
     returns-3)

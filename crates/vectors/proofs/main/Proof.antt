@@ -28,18 +28,6 @@ slice-aggregate-read-rest c = search needs
 read-rest-requires : tie.Need-read-rest-requires
 read-rest-requires c κs = search needs
 
-large-buffer-requires-2 : tie.Need-large-buffer-requires-2
-large-buffer-requires-2 c κs = search needs
-
-large-buffer-requires-3 : tie.Need-large-buffer-requires-3
-large-buffer-requires-3 c κs = search needs
-
-buffer-requires : tie.Need-buffer-requires
-buffer-requires c κs = search needs
-
-large-buffer-requires-4 : tie.Need-large-buffer-requires-4
-large-buffer-requires-4 c κs = search needs
-
 array-share-prefix-list : tie.Need-array-share-prefix-list
 array-share-prefix-list c = search needs
 
@@ -51,24 +39,6 @@ arg-count-requires c κs = search needs
 
 slice-aggregate-all-cases-2 : tie.Need-slice-aggregate-all-cases-2
 slice-aggregate-all-cases-2 c = search needs
-
-slice-aggregate-all-cases-3 : tie.Need-slice-aggregate-all-cases-3
-slice-aggregate-all-cases-3 c = search needs
-
-slice-aggregate-all-cases-4 : tie.Need-slice-aggregate-all-cases-4
-slice-aggregate-all-cases-4 c = search needs
-
-slice-aggregate-all-cases-5 : tie.Need-slice-aggregate-all-cases-5
-slice-aggregate-all-cases-5 c = search needs
-
-slice-aggregate-all-cases-6 : tie.Need-slice-aggregate-all-cases-6
-slice-aggregate-all-cases-6 c = search needs
-
-slice-aggregate-all-cases-7 : tie.Need-slice-aggregate-all-cases-7
-slice-aggregate-all-cases-7 c = search needs
-
-slice-aggregate-all-cases-8 : tie.Need-slice-aggregate-all-cases-8
-slice-aggregate-all-cases-8 c = search needs
 
 all-cases-requires : tie.Need-all-cases-requires
 all-cases-requires c κs = search needs
@@ -94,20 +64,10 @@ main-spec =
     large-buffer-requires
     slice-aggregate-read-rest
     read-rest-requires
-    large-buffer-requires-2
-    large-buffer-requires-3
-    buffer-requires
-    large-buffer-requires-4
     array-share-prefix-list
     slice-aggregate-all-cases
     arg-count-requires
     slice-aggregate-all-cases-2
-    slice-aggregate-all-cases-3
-    slice-aggregate-all-cases-4
-    slice-aggregate-all-cases-5
-    slice-aggregate-all-cases-6
-    slice-aggregate-all-cases-7
-    slice-aggregate-all-cases-8
     all-cases-requires
     slice-aggregate-report
     report-requires

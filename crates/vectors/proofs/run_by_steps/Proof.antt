@@ -1,24 +1,30 @@
 use mathlib.Core.Path.{_≡_}
-use borrow.Author.Needs.{needs}
 use lib.ListN.{length}
 use Prim.Native.Nat.{_-_, _≤_}
+use borrow.Author.Needs.{needs}
 use Rattle.vectors.proofs.run_by_steps.Statement.{statement}
 use Rattle.vectors.proofs.run_by_steps.Tie as tie
 
 abbrev Inv-loop : tie.InvT-loop
-Inv-loop image₀ events answers₀ i₀ image answers i = (length image ≡ length image₀) × (length answers ≡ length answers₀) × (i ≤ 65537)
+Inv-loop image₀ events told₀ i₀ image told i = (length image ≡ length image₀) × (length told ≡ length told₀) × (i ≤ 4096)
 
 abbrev μ-loop : tie.MeasureT-loop
-μ-loop image₀ events answers₀ i₀ image answers i = 65537 - i
+μ-loop image₀ events told₀ i₀ image told i = 4096 - i
 
 loop-holds : tie.Need-loop-holds Inv-loop μ-loop
 loop-holds c = search needs
 
-mul-if1 : tie.Need-mul-if1 Inv-loop μ-loop
-mul-if1 c = search needs
+mul-if2 : tie.Need-mul-if2 Inv-loop μ-loop
+mul-if2 c = search needs
 
 run-step-requires : tie.Need-run-step-requires Inv-loop μ-loop
 run-step-requires c κs = search needs
+
+mul-told : tie.Need-mul-told Inv-loop μ-loop
+mul-told c = search needs
+
+slice-write-told : tie.Need-slice-write-told Inv-loop μ-loop
+slice-write-told c = search needs
 
 add-i : tie.Need-add-i Inv-loop μ-loop
 add-i c = search needs
@@ -47,6 +53,15 @@ same-length-4 c = search needs
 returns-2 : tie.Need-returns-2 Inv-loop μ-loop
 returns-2 c = search needs
 
+same-length-5 : tie.Need-same-length-5 Inv-loop μ-loop
+same-length-5 c = search needs
+
+same-length-6 : tie.Need-same-length-6 Inv-loop μ-loop
+same-length-6 c = search needs
+
+returns-3 : tie.Need-returns-3 Inv-loop μ-loop
+returns-3 c = search needs
+
 pub run-by-steps-spec : {M : Type 1} → statement M
 run-by-steps-spec =
     tie.close
@@ -54,8 +69,10 @@ run-by-steps-spec =
     Inv-loop
     μ-loop
     loop-holds
-    mul-if1
+    mul-if2
     run-step-requires
+    mul-told
+    slice-write-told
     add-i
     loop-less
     loop-again
@@ -64,4 +81,7 @@ run-by-steps-spec =
     returns
     same-length-3
     same-length-4
-    returns-2)
+    returns-2
+    same-length-5
+    same-length-6
+    returns-3)

@@ -1,15 +1,15 @@
 use mathlib.Core.Path.{_≡_}
-use borrow.Author.Needs.{needs}
 use lib.ListN.{length}
 use Prim.Native.Nat.{_-_, _≤_}
+use borrow.Author.Needs.{needs}
 use Rattle.vectors.proofs.run_in_pieces.Statement.{statement}
 use Rattle.vectors.proofs.run_in_pieces.Tie as tie
 
 abbrev Inv-loop : tie.InvT-loop
-Inv-loop image₀ events answers₀ done₀ image answers done = (length image ≡ length image₀) × (length answers ≡ length answers₀) × (done ≤ 65543)
+Inv-loop image₀ events told₀ done₀ image told done = (length image ≡ length image₀) × (length told ≡ length told₀) × (done ≤ 4103)
 
 abbrev μ-loop : tie.MeasureT-loop
-μ-loop image₀ events answers₀ done₀ image answers done = 65543 - done
+μ-loop image₀ events told₀ done₀ image told done = 4103 - done
 
 loop-holds : tie.Need-loop-holds Inv-loop μ-loop
 loop-holds c = search needs

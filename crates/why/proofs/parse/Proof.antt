@@ -34,8 +34,9 @@ returns-3 c =
 
 returns-4 : tie.Need-returns-4 Inv-loop μ-loop
 returns-4 c =
-    let v = c .before .before .before .before .loop in
-    let a = c .before .before .before .before .before .before .before .args in
+    let looped = c .before .before .before .before in
+    let v = looped .loop in
+    let a = looped .before .before .before .args in
     sym (number-high (v .n) (a .word .now) (v .i) (omega arith) (omega arith)) ∙ v .inv .3
 
 mul-n : tie.Need-mul-n Inv-loop μ-loop
@@ -59,8 +60,9 @@ loop-less c = omega arith
 
 loop-again : tie.Need-loop-again Inv-loop μ-loop
 loop-again c =
-    let v = c .before .before .before .before .loop in
-    let a = c .before .before .before .before .before .before .before .args in
+    let looped = c .before .before .before .before in
+    let v = looped .loop in
+    let a = looped .before .before .before .args in
     let b = getD (a .word .now) (v .i) 0 in (
       omega arith,
       omega arith,

@@ -1,6 +1,6 @@
 use native.Mathlib.Omega.{arith}
 use mathlib.Core.Path.{refl}
-use Rattle.stream.proofs.Lines.{number-ends}
+use Rattle.stream.proofs.JoinedTexts.{number-ends}
 use Rattle.why.proofs.Sentences.{about-put}
 use borrow.Author.Needs.{needs}
 use Rattle.why.proofs.put_about.Statement.{statement}

@@ -1,5 +1,5 @@
 use native.Mathlib.Omega.{arith}
-use Rattle.why.proofs.Answers.{said-first, text-refused, text-unknown, lines-told, text-page}
+use Rattle.why.proofs.PrintedAnswer.{said-first, text-refused, text-unknown, lines-told, text-page}
 use borrow.Author.Needs.{needs}
 use Rattle.why.proofs.put_answer.Statement.{statement}
 use Rattle.why.proofs.put_answer.Tie as tie
@@ -41,7 +41,8 @@ slice-aggregate-put-page c = search needs
 
 put-page-requires : tie.Need-put-page-requires
 put-page-requires c κs =
-    let told = c .before .before .before .before .before .before .before in
+    let known = c .before .before in
+    let told = known .before .before .before .before .before in
     let a = told .before .before .before .before .args in
     let few = lines-told (a .s .now) (a .id) (told .explain .ensures .answer) in
     (omega (arith, few), omega (arith, few))

@@ -1,6 +1,6 @@
 use native.Mathlib.Omega.{arith}
-use Rattle.stream.proofs.Lines.{then}
-use Rattle.why.specs.Words.{certificate, ended, is-verified-by, about}
+use Rattle.stream.proofs.JoinedTexts.{then}
+use Rattle.why.specs.SentenceText.{certificate, ended, is-verified-by, about}
 use Rattle.why.proofs.Sentences.{said, about-ends, link-first, link-next}
 use borrow.Author.Needs.{needs}
 use Rattle.why.proofs.put_link.Statement.{statement}
@@ -50,12 +50,13 @@ same-length-2 c = search needs
 
 returns-2 : tie.Need-returns-2
 returns-2 c =
-    let verified = c .before .before .before .before .before .before .before .before in
+    let second = c .before .before in
+    let verified = second .before .before .before .before .before .before in
     let test = verified .before .before .before .before in
     let a = test .before .before .args in
     said (a .out .now) (a .at) (link-next (a .above) (a .id) (test .if1 .left))
     (then (a .out .now) (a .at) (about certificate (a .id) is-verified-by) (about certificate (a .above) ended) (omega arith)
-    (verified .put-about2 .ensures) (c .before .before .put-about3 .ensures))
+    (verified .put-about2 .ensures) (second .put-about3 .ensures))
 
 pub put-link-spec : {M : Type 1} → statement M
 put-link-spec =

@@ -4,8 +4,8 @@ use native.Mathlib.Omega.{arith}
 use lib.ListN.{length}
 use Rattle.octets.specs.Octets.{put}
 use Rattle.explanations.specs.Why.{line}
-use Rattle.stream.proofs.Lines.{Put}
-use Rattle.why.specs.Words.{longest-sentence, page, lines-said}
+use Rattle.stream.proofs.JoinedTexts.{Put}
+use Rattle.why.specs.SentenceText.{longest-sentence, page, lines-said}
 use Rattle.why.proofs.Sentences.{sentence-small}
 use Rattle.why.proofs.Pages.{last-id, page-none, page-next}
 use Rattle.why.proofs.put_page.Statement.{statement}

@@ -1,6 +1,6 @@
 use Prim.Native.Nat.{ℕ}
 use mathlib.Core.Path.{ap}
-use Rattle.why.specs.Words.{reason-sentence}
+use Rattle.why.specs.SentenceText.{reason-sentence}
 use Rattle.why.proofs.Sentences.{said, nothing, reason-none}
 use borrow.Author.Needs.{needs}
 use Rattle.why.proofs.put_reason.Statement.{statement}

@@ -1,7 +1,7 @@
 use Prim.Native.Nat.{ℕ}
 use mathlib.Core.Path.{ap}
 use Rattle.explanations.specs.Why.{line}
-use Rattle.why.specs.Words.{sentence}
+use Rattle.why.specs.SentenceText.{sentence}
 use Rattle.why.proofs.Sentences.{said, sentence-reason}
 use borrow.Author.Needs.{needs}
 use Rattle.why.proofs.put_sentence.Statement.{statement}

@@ -1,9 +1,9 @@
 use native.Mathlib.Omega.{arith}
 use mathlib.Core.Path.{sym}
 use lib.Seq.{length-take-le}
-use Rattle.stream.proofs.Lines.{start-within}
-use Rattle.why.specs.Words.{answer-text}
-use Rattle.why.proofs.Answers.{answer-small}
+use Rattle.stream.proofs.JoinedTexts.{start-within}
+use Rattle.why.specs.SentenceText.{answer-text}
+use Rattle.why.proofs.PrintedAnswer.{answer-small}
 use borrow.Author.Needs.{needs}
 use Rattle.why.proofs.tell.Statement.{statement}
 use Rattle.why.proofs.tell.Tie as tie

@@ -8,12 +8,15 @@ use Rattle.records.specs.Phone.{decode, no-certificate}
 use Rattle.rules.specs.ImageRules.{i5}
 use Rattle.rules.specs.Faults.{of-certificates}
 use Rattle.rules.proofs.Lowest.{breaks-here, keeps-on, breaks-nowhere}
-use Rattle.rules.proofs.Faults.{i5-grows}
+use Rattle.rules.proofs.RulesGrow.{i5-grows}
 use Rattle.opening.proofs.sweeps.i5.Statement.{statement}
 use Rattle.opening.proofs.sweeps.i5.Tie as tie
 
 abbrev Inv-loop : tie.InvT-loop
-Inv-loop s slots i₀ i = (i ≤ slots) × (slots ≡ length (decode s .trust .certificates)) × (of-certificates i5 (decode s) (take i (decode s .trust .certificates)) ≡ true)
+Inv-loop s slots i₀ i =
+    (i ≤ slots)
+    × (slots ≡ length (decode s .trust .certificates))
+    × (of-certificates i5 (decode s) (take i (decode s .trust .certificates)) ≡ true)
 
 abbrev μ-loop : tie.MeasureT-loop
 μ-loop s slots i₀ i = slots - i
@@ -40,8 +43,11 @@ loop-less c = search needs
 
 loop-again : tie.Need-loop-again Inv-loop μ-loop
 loop-again c =
-    let v = c .before .before .before .loop in
-    (search needs, search needs, keeps-on (i5-grows (decode _)) no-certificate _ (v .i) (v .inv .2) (omega arith) refl (c .before .i5-with .ensures) (c .if1 .left))
+    let v = c .before .before .before .loop in (
+      search needs,
+      search needs,
+      keeps-on (i5-grows (decode _)) no-certificate _ (v .i) (v .inv .2) (omega arith) refl (c .before .i5-with .ensures) (c .if1 .left),
+    )
 
 returns-2 : tie.Need-returns-2 Inv-loop μ-loop
 returns-2 c = breaks-nowhere (i5-grows (decode _)) no-certificate _ (c .before .loop .i) (c .before .loop .inv .2) (omega arith) (omega arith)

@@ -1,4 +1,4 @@
-use Rattle.opening.proofs.Parts.{i5-spared}
+use Rattle.opening.proofs.ByParts.{i5-spared}
 use borrow.Author.Needs.{needs}
 use Rattle.opening.proofs.sweeps.i5_with.Statement.{statement}
 use Rattle.opening.proofs.sweeps.i5_with.Tie as tie

@@ -8,7 +8,7 @@ use Rattle.records.specs.Phone.{decode, no-executable}
 use Rattle.rules.specs.ImageRules.{i7}
 use Rattle.rules.specs.Faults.{of-executables}
 use Rattle.rules.proofs.Lowest.{breaks-here, keeps-on, breaks-nowhere}
-use Rattle.rules.proofs.Faults.{i7-grows}
+use Rattle.rules.proofs.RulesGrow.{i7-grows}
 use Rattle.opening.proofs.sweeps.i7.Statement.{statement}
 use Rattle.opening.proofs.sweeps.i7.Tie as tie
 
@@ -27,13 +27,13 @@ executable-slots-requires c κs = search needs
 loop-holds : tie.Need-loop-holds Inv-loop μ-loop
 loop-holds c = (search needs, search needs, (i7-grows (decode _)) .none)
 
-program-with-requires : tie.Need-program-with-requires Inv-loop μ-loop
-program-with-requires c κs = search needs
+executable-with-requires : tie.Need-executable-with-requires Inv-loop μ-loop
+executable-with-requires c κs = search needs
 
 returns : tie.Need-returns Inv-loop μ-loop
 returns c =
     let v = c .before .before .before .loop in
-    breaks-here (i7-grows (decode _)) no-executable _ (v .i) {b = c .before .program-with .result} (v .inv .2) (omega arith) refl (cc) (c .if1 .taken)
+    breaks-here (i7-grows (decode _)) no-executable _ (v .i) {b = c .before .executable-with .result} (v .inv .2) (omega arith) refl (cc) (c .if1 .taken)
 
 add-i : tie.Need-add-i Inv-loop μ-loop
 add-i c = search needs
@@ -43,8 +43,11 @@ loop-less c = search needs
 
 loop-again : tie.Need-loop-again Inv-loop μ-loop
 loop-again c =
-    let v = c .before .before .before .loop in
-    (search needs, search needs, keeps-on (i7-grows (decode _)) no-executable _ (v .i) {b = c .before .program-with .result} (v .inv .2) (omega arith) refl (cc) (c .if1 .left))
+    let v = c .before .before .before .loop in (
+      search needs,
+      search needs,
+      keeps-on (i7-grows (decode _)) no-executable _ (v .i) {b = c .before .executable-with .result} (v .inv .2) (omega arith) refl (cc) (c .if1 .left),
+    )
 
 returns-2 : tie.Need-returns-2 Inv-loop μ-loop
 returns-2 c = breaks-nowhere (i7-grows (decode _)) no-executable _ (c .before .loop .i) (c .before .loop .inv .2) (omega arith) (omega arith)
@@ -58,7 +61,7 @@ i7-spec =
     action-count-requires
     executable-slots-requires
     loop-holds
-    program-with-requires
+    executable-with-requires
     returns
     add-i
     loop-less

@@ -10,13 +10,16 @@ use Rattle.records.specs.Phone.{decode, no-certificate, certificate-at}
 use Rattle.rules.specs.Words.{all}
 use Rattle.rules.specs.Parts.{apart}
 use Rattle.rules.proofs.More.{all-grows, below-fails, below-goes-on, below-passes}
-use Rattle.opening.proofs.Parts.{zero-apart, not-same}
+use Rattle.opening.proofs.ByParts.{zero-apart, not-same}
 use Rattle.opening.proofs.sweeps.id_apart.Statement.{statement}
 use Rattle.opening.proofs.sweeps.id_apart.Tie as tie
 
 abbrev Inv-loop : tie.InvT-loop
 Inv-loop s i id j₀ j =
-    (j ≤ i) × (id ≡ certificate-at (decode s) i .id) × (id ≢ 0) × (all (λ y. apart (certificate-at (decode s) i .id) (y .id)) (take j (decode s .trust .certificates)) ≡ true)
+    (j ≤ i)
+    × (id ≡ certificate-at (decode s) i .id)
+    × (id ≢ 0)
+    × (all (λ y. apart (certificate-at (decode s) i .id) (y .id)) (take j (decode s .trust .certificates)) ≡ true)
 
 abbrev μ-loop : tie.MeasureT-loop
 μ-loop s i id j₀ j = i - j

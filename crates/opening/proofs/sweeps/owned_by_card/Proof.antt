@@ -1,4 +1,4 @@
-use Rattle.opening.proofs.Parts.{implied, spared}
+use Rattle.opening.proofs.ByParts.{implied, spared}
 use Rattle.rules.specs.ImageRules.{owned-by-card}
 use borrow.Author.Needs.{needs}
 use Rattle.opening.proofs.sweeps.owned_by_card.Statement.{statement}

@@ -1,5 +1,5 @@
 use mathlib.Core.Path.{_∙_}
-use Rattle.records.proofs.Writes.{certificate-cleared}
+use Rattle.records.proofs.FramedWrites.{certificate-cleared}
 use borrow.Author.Needs.{needs}
 use Rattle.records.proofs.image.clear_certificate.Statement.{statement}
 use Rattle.records.proofs.image.clear_certificate.Tie as tie

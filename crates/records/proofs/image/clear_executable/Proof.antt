@@ -1,5 +1,5 @@
 use mathlib.Core.Path.{_∙_}
-use Rattle.records.proofs.Writes.{executable-cleared}
+use Rattle.records.proofs.FramedWrites.{executable-cleared}
 use borrow.Author.Needs.{needs}
 use Rattle.records.proofs.image.clear_executable.Statement.{statement}
 use Rattle.records.proofs.image.clear_executable.Tie as tie

@@ -1,5 +1,5 @@
 use mathlib.Core.Path.{_∙_}
-use Rattle.records.proofs.Writes.{card-written}
+use Rattle.records.proofs.FramedWrites.{card-written}
 use borrow.Author.Needs.{needs}
 use Rattle.records.proofs.image.set_card.Statement.{statement}
 use Rattle.records.proofs.image.set_card.Tie as tie

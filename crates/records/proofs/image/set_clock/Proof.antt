@@ -1,5 +1,5 @@
 use mathlib.Core.Path.{_∙_}
-use Rattle.records.proofs.Writes.{clock-written}
+use Rattle.records.proofs.FramedWrites.{clock-written}
 use borrow.Author.Needs.{needs}
 use Rattle.records.proofs.image.set_clock.Statement.{statement}
 use Rattle.records.proofs.image.set_clock.Tie as tie

@@ -1,5 +1,5 @@
 use mathlib.Core.Path.{_∙_}
-use Rattle.records.proofs.Writes.{domain-written}
+use Rattle.records.proofs.FramedWrites.{domain-written}
 use borrow.Author.Needs.{needs}
 use Rattle.records.proofs.image.set_domain.Statement.{statement}
 use Rattle.records.proofs.image.set_domain.Tie as tie

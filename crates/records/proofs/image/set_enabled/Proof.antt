@@ -1,5 +1,5 @@
 use mathlib.Core.Path.{_∙_}
-use Rattle.records.proofs.Writes.{enabled-written}
+use Rattle.records.proofs.FramedWrites.{enabled-written}
 use borrow.Author.Needs.{needs}
 use Rattle.records.proofs.image.set_enabled.Statement.{statement}
 use Rattle.records.proofs.image.set_enabled.Tie as tie

@@ -1,5 +1,5 @@
 use mathlib.Core.Path.{_∙_}
-use Rattle.records.proofs.Writes.{mark-written}
+use Rattle.records.proofs.FramedWrites.{mark-written}
 use borrow.Author.Needs.{needs}
 use Rattle.records.proofs.image.set_mark.Statement.{statement}
 use Rattle.records.proofs.image.set_mark.Tie as tie

@@ -1,5 +1,5 @@
 use mathlib.Core.Path.{_∙_}
-use Rattle.records.proofs.Writes.{mode-written}
+use Rattle.records.proofs.FramedWrites.{mode-written}
 use borrow.Author.Needs.{needs}
 use Rattle.records.proofs.image.set_mode.Statement.{statement}
 use Rattle.records.proofs.image.set_mode.Tie as tie

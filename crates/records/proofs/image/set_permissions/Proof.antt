@@ -1,5 +1,5 @@
 use mathlib.Core.Path.{_∙_}
-use Rattle.records.proofs.Writes.{permissions-written}
+use Rattle.records.proofs.FramedWrites.{permissions-written}
 use borrow.Author.Needs.{needs}
 use Rattle.records.proofs.image.set_permissions.Statement.{statement}
 use Rattle.records.proofs.image.set_permissions.Tie as tie

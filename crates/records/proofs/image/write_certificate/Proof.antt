@@ -1,5 +1,5 @@
 use mathlib.Core.Path.{_∙_}
-use Rattle.records.proofs.Writes.{certificate-written}
+use Rattle.records.proofs.FramedWrites.{certificate-written}
 use borrow.Author.Needs.{needs}
 use Rattle.records.proofs.image.write_certificate.Statement.{statement}
 use Rattle.records.proofs.image.write_certificate.Tie as tie

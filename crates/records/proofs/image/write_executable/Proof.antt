@@ -1,5 +1,5 @@
 use mathlib.Core.Path.{_∙_}
-use Rattle.records.proofs.Writes.{executable-written}
+use Rattle.records.proofs.FramedWrites.{executable-written}
 use borrow.Author.Needs.{needs}
 use Rattle.records.proofs.image.write_executable.Statement.{statement}
 use Rattle.records.proofs.image.write_executable.Tie as tie

@@ -1,0 +1,8 @@
+pub mod CertificateCodes
+pub mod CertificateRooms
+pub mod Enables
+pub mod Marking
+pub mod MarksAndMessages
+pub mod NamedCertificate
+pub mod Owners
+pub mod Rivals

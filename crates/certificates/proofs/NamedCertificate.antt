@@ -1,0 +1,92 @@
+-- An event on the certificate that it names: from the rows to its plan, and from the plan to the slot. Assumes nothing.
+use Prim.Native.Nat.{ℕ, _<_}
+use mathlib.Core.Bool.{Bool, true, false, not}
+use mathlib.Core.List.{List, _∷_, _++_}
+use mathlib.Core.Logic.{_≢_}
+use mathlib.Core.Path.{_≡_, refl, sym, subst}
+use native.Mathlib.Omega.{arith}
+use lib.Dec.{T}
+use lib.ListN.{length, getD, drop}
+use Rattle.records.specs.Phone.{Phone, certificate-at}
+use Rattle.records.specs.declared.Certificate.{Certificate}
+use Rattle.records.specs.declared.Event.{Event}
+use Rattle.rules.specs.Words.{between, Check, _⇒_, first, first-place}
+use Rattle.rules.specs.Forms.{with-kind, forms, no-form, id-form}
+use Rattle.rules.specs.Codes.{has-id, certificate-known, certificate-named, code-of}
+use Rattle.handling.specs.declared.Plan.{Plan}
+use Rattle.handling.specs.Plans.{plan, on-certificate, certificate-rows}
+use Rattle.handling.proofs.Decided.{formed, refused-first, refused-next, on-next}
+use Rattle.handling.proofs.FirstWithin.{first-within}
+use Rattle.handling.proofs.Handles.{named-id}
+use Rattle.handling.proofs.Named.{certificate-here}
+use Rattle.handling.proofs.PlanLaws.{on-code, on-slot, certificate-within}
+use Rattle.certificates.specs.Decisions.{certificate-plan}
+use Rattle.certificates.proofs.CertificateCodes.{on-rows}
+
+abbrev place : Phone → Event → ℕ
+place p e = first-place (has-id (e .id)) (p .trust .certificates)
+
+-- the form is right, the rows on the certificate have decided r, and after those come the rows m
+pub record Onward (k : ℕ) (p : Phone) (e : Event) (m : List Check) (r : Plan) : Type 0 where
+  pub told : first (on-rows k p e m) ≡ code-of p (with-kind k e)
+  pub form : Bool
+  pub answers : form ≡ id-form p e
+  pub right : not form ≡ false
+  pub rows : r ≡ certificate-plan k p e
+
+module _ {k : ℕ} {p : Phone} {e : Event} {m : List Check} {r : Plan} (o : Onward k p e m r) where
+  whole : {t : Plan} → t ≡ plan (first (certificate-rows k p e ++ m)) (place p e) → t ≡ on-certificate k p e
+  whole = formed (code-of p (with-kind k e)) (place p e) (id-form p e) (certificate-rows k p e ++ m) (o .told) (o .answers) (o .right)
+
+  -- they refuse it
+  pub row-refuses : {c : ℕ} → r ≡ Plan.Refused c → Plan.Refused c ≡ on-certificate k p e
+  row-refuses u = whole (refused-first (certificate-rows k p e) m (place p e) (o .rows) u)
+
+  -- they let the rest decide on slot i
+  module _ {i : ℕ} (on : r ≡ Plan.On i) where
+    pub rest-refuses : {c : ℕ} → c ≢ 0 → c ≡ first m → Plan.Refused c ≡ on-certificate k p e
+    rest-refuses n t = whole (refused-next (certificate-rows k p e) m (place p e) (o .rows) tt on n t)
+
+    pub none-refuses : 0 ≡ first m → Plan.On i ≡ on-certificate k p e
+    none-refuses t = whole (on-next (certificate-rows k p e) m (place p e) (o .rows) tt on t)
+
+    slot : i ≡ place p e
+    slot = on-slot (first (certificate-rows k p e)) (place p e) (o .rows) on
+
+    known : (b : Bool) (l : List Check) → first ((not b ⇒ 3) ∷ l) ≡ 0 → b ≡ true
+    unfolding first
+    known true l z = refl
+    known false l z = absurd (omega (arith, z))
+
+    pub row-within : i < length (p .trust .certificates)
+    unfolding certificate-known
+    row-within =
+        first-within (has-id (e .id)) (p .trust .certificates) slot
+        (known (certificate-known p (e .id)) (drop 1 (certificate-rows k p e)) (on-code (first (certificate-rows k p e)) (place p e) (o .rows) on))
+
+    pub row-named : {c : Certificate} → c ≡ certificate-at p i → c ≡ certificate-named p (e .id)
+    row-named = certificate-here p (e .id) slot
+
+-- ---- the event is done
+
+-- it is about slot i
+pub record About (k : ℕ) (p : Phone) (e : Event) (i : ℕ) : Type 0 where
+  pub code : code-of p (with-kind k e) ≡ 0
+  pub slot : i ≡ first-place (has-id (e .id)) (p .trust .certificates)
+  pub within : i < length (p .trust .certificates)
+  pub id : 0 < e .id
+
+module _ (k : ℕ) (p : Phone) (e : Event) (h : T (between 6 8 k)) (f : T (getD forms k no-form p (with-kind k e)) → T (id-form p (with-kind k e))) where
+  pub about : {r : Plan} → r ≡ on-certificate k p e → {i : ℕ} → r ≡ Plan.On i → About k p e i
+  about q on =
+      let z = on-code (code-of p (with-kind k e)) (place p e) q on in
+      let s = on-slot (code-of p (with-kind k e)) (place p e) q on in
+      record {
+        code = z;
+        slot = s;
+        within = subst (λ n. n < length (p .trust .certificates)) (sym s) (certificate-within p e k z h);
+        id = named-id p e k z f;
+      }
+
+pub about-named : {k : ℕ} {p : Phone} {e : Event} {i : ℕ} → About k p e i → {c : Certificate} → c ≡ certificate-at p i → c ≡ certificate-named p (e .id)
+about-named {k} {p} {e} a = certificate-here p (e .id) (a .slot)

@@ -1,0 +1,79 @@
+use Prim.Native.Nat.{_≤_, _-_}
+use mathlib.Core.Path.{_≡_, refl, sym, _∙_}
+use native.Mathlib.Omega.{arith}
+use borrow.Author.Needs.{needs}
+use lib.ListN.{length, drop}
+use Rattle.records.specs.Phone.{decode, no-certificate}
+use Rattle.rules.specs.Words.{any}
+use Rattle.rules.specs.Codes.{rival}
+use Rattle.rules.proofs.Loops.{any-stops, any-goes-on, any-fails}
+use Rattle.certificates.proofs.decisions.has_rival.Statement.{statement}
+use Rattle.certificates.proofs.decisions.has_rival.Tie as tie
+
+abbrev Inv-loop : tie.InvT-loop
+Inv-loop s c slots i₀ i =
+    (i ≤ slots)
+    × (slots ≡ length (decode s .trust .certificates))
+    × (any (rival (decode s .trust .seen) c) (drop i (decode s .trust .certificates)) ≡ any (rival (decode s .trust .seen) c) (decode s .trust .certificates))
+
+abbrev μ-loop : tie.MeasureT-loop
+μ-loop s c slots i₀ i = slots - i
+
+abbrev start : tie.At-loop Inv-loop μ-loop → tie.Start Inv-loop μ-loop
+start c = c .before .before .before
+
+certificate-slots-requires : tie.Need-certificate-slots-requires Inv-loop μ-loop
+certificate-slots-requires c κs = search needs
+
+loop-holds : tie.Need-loop-holds Inv-loop μ-loop
+loop-holds c = (search needs, search needs, refl)
+
+certificate-requires : tie.Need-certificate-requires Inv-loop μ-loop
+certificate-requires c κs = search needs
+
+is-rival-requires : tie.Need-is-rival-requires Inv-loop μ-loop
+is-rival-requires c κs = search needs
+
+returns : tie.Need-returns Inv-loop μ-loop
+returns c =
+    let l = c .before .before .before .before in
+    let a = start l .args in
+    any-stops no-certificate _ (l .loop .i) (rival ((decode (a .s .now)) .trust .seen) (a .c)) _ (l .loop .inv .2) (omega arith)
+    (c .before .before .certificate .ensures) (sym (c .before .is-rival .ensures) ∙ c .if1 .taken)
+
+add-i : tie.Need-add-i Inv-loop μ-loop
+add-i c = search needs
+
+loop-less : tie.Need-loop-less Inv-loop μ-loop
+loop-less c = search needs
+
+loop-again : tie.Need-loop-again Inv-loop μ-loop
+loop-again c =
+    let l = c .before .before .before .before in
+    let a = start l .args in (
+      search needs,
+      search needs,
+      any-goes-on no-certificate _ (l .loop .i) (rival ((decode (a .s .now)) .trust .seen) (a .c)) _ (l .loop .inv .2) (omega arith)
+          (c .before .before .certificate .ensures) (sym (c .before .is-rival .ensures) ∙ c .if1 .left),
+    )
+
+returns-2 : tie.Need-returns-2 Inv-loop μ-loop
+returns-2 c =
+    let a = start (c .before) .args in
+    any-fails no-certificate _ (c .before .loop .i) (rival ((decode (a .s .now)) .trust .seen) (a .c)) _ (c .before .loop .inv .2) (omega arith)
+
+pub has-rival-spec : {M : Type 1} → statement M
+has-rival-spec =
+    tie.close
+    (tie.spec
+    Inv-loop
+    μ-loop
+    certificate-slots-requires
+    loop-holds
+    certificate-requires
+    is-rival-requires
+    returns
+    add-i
+    loop-less
+    loop-again
+    returns-2)

@@ -1,0 +1,47 @@
+use Prim.Native.Nat.{ℕ}
+use mathlib.Core.Path.{_≡_, sym, _∙_}
+use borrow.Author.Tests.{eq-eqb, ne-eqb}
+use lib.ListN.{drop}
+use Rattle.records.specs.Phone.{decode}
+use Rattle.rules.specs.Words.{first}
+use Rattle.handling.proofs.CodeRows.{Gives, none, here, next, gives}
+use Rattle.certificates.specs.MarkingRows.{marking-rows}
+use borrow.Author.Needs.{needs}
+use Rattle.certificates.proofs.decisions.judge_marking.Statement.{statement}
+use Rattle.certificates.proofs.decisions.judge_marking.Tie as tie
+
+-- r is what the rows give where those after the first n give it
+abbrev Past : ℕ → tie.After-of-other-operator → ℕ → Type 0
+Past n c r =
+    let a = c .before .before .args in
+    let l = marking-rows (decode (a .s .now)) (a .c) in
+    Gives r (drop n l) → r ≡ first l
+
+past-1 : (c : tie.Else1) {r : ℕ} → Past 1 (c .before) r
+past-1 c g = gives (next (sym (c .before .of-other-operator .ensures) ∙ c .if1 .left) g)
+
+past-2 : (c : tie.Else2) {r : ℕ} → Past 2 (c .before .before .before) r
+past-2 c g = past-1 (c .before .before) (next (ne-eqb _ 1 (c .if2 .left)) g)
+
+of-other-operator-requires : tie.Need-of-other-operator-requires
+of-other-operator-requires c κs = search needs
+
+returns : tie.Need-returns
+returns c = gives (here (sym (c .before .of-other-operator .ensures) ∙ c .if1 .taken))
+
+returns-2 : tie.Need-returns-2
+returns-2 c = past-1 (c .before .before) (here (eq-eqb _ 1 (c .if2 .taken)))
+
+has-rival-requires : tie.Need-has-rival-requires
+has-rival-requires c κs = search needs
+
+returns-3 : tie.Need-returns-3
+returns-3 c = past-2 (c .before .before) (here (sym (c .before .has-rival .ensures) ∙ c .if3 .taken))
+
+returns-4 : tie.Need-returns-4
+returns-4 c = past-2 (c .before .before) (next (sym (c .before .has-rival .ensures) ∙ c .if3 .left) none)
+
+pub judge-marking-spec : {M : Type 1} → statement M
+judge-marking-spec =
+    tie.close
+    (tie.spec of-other-operator-requires returns returns-2 has-rival-requires returns-3 returns-4)

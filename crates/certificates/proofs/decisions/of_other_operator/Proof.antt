@@ -1,0 +1,41 @@
+use Rattle.records.specs.Phone.{decode}
+use Rattle.certificates.proofs.Owners.{other-operator, no-operator}
+use borrow.Author.Needs.{needs}
+use Rattle.certificates.proofs.decisions.of_other_operator.Statement.{statement}
+use Rattle.certificates.proofs.decisions.of_other_operator.Tie as tie
+
+abbrev start : tie.After-is-phone-operator-root → tie.Start
+start c = c .before .before .before
+
+card-present-requires : tie.Need-card-present-requires
+card-present-requires c κs = search needs
+
+is-phone-operator-root-requires : tie.Need-is-phone-operator-root-requires
+is-phone-operator-root-requires c κs = search needs
+
+operator-of-requires : tie.Need-operator-of-requires
+operator-of-requires c κs = search needs
+
+returns : tie.Need-returns
+returns c =
+    let t = c .before .before in
+    let r = t .before in
+    let a = start r .args in
+    other-operator (decode (a .s .now)) (a .c) (r .is-phone-operator-root .ensures) (r .before .card-present .ensures) (c .before .operator-of .ensures)
+    (t .if1 .taken)
+
+returns-2 : tie.Need-returns-2
+returns-2 c =
+    let r = c .before in
+    let a = start r .args in
+    no-operator (decode (a .s .now)) (a .c) (r .is-phone-operator-root .ensures) (r .before .card-present .ensures) (c .if1 .left)
+
+pub of-other-operator-spec : {M : Type 1} → statement M
+of-other-operator-spec =
+    tie.close
+    (tie.spec
+    card-present-requires
+    is-phone-operator-root-requires
+    operator-of-requires
+    returns
+    returns-2)

@@ -1,0 +1,83 @@
+use Rattle.records.specs.Phone.{decode}
+use Rattle.rules.specs.Forms.{with-kind}
+use Rattle.rules.specs.Effects.{effect, delete-certificate}
+use Rattle.rules.specs.Step.{done}
+use Rattle.handling.proofs.Handles.{plan-handled, settle-framed, said-own, handled-settled, accepted-phone}
+use Rattle.certificates.proofs.NamedCertificate.{About, about, about-named}
+use Rattle.certificates.proofs.MarksAndMessages.{delete-own}
+use borrow.Author.Needs.{needs}
+use Rattle.certificates.proofs.delete_certificate.Statement.{statement}
+use Rattle.certificates.proofs.delete_certificate.Tie as tie
+
+abbrev start : tie.After-slot → tie.Start
+start c = c .before .before .before .before .before
+
+-- before the write
+abbrev on : tie.After-delete-certificate2 → tie.After-slot
+on c = c .before .before .before .before .before
+
+about-it : (c : tie.After-slot) → About 6 (decode (start c .args .s .now)) (start c .args .e) (c .slot .given .0 .0)
+about-it c = about 6 _ (start c .args .e) tt (λ h. h) (c .before .before .delete-certificate .ensures) (c .slot .given .1)
+
+delete-certificate-requires : tie.Need-delete-certificate-requires
+delete-certificate-requires c κs = search needs
+
+enum-known-code : tie.Need-enum-known-code
+enum-known-code c = search needs
+
+refused-requires : tie.Need-refused-requires
+refused-requires c κs = search needs
+
+enum-known-slot : tie.Need-enum-known-slot
+enum-known-slot c = search needs
+
+certificate-requires : tie.Need-certificate-requires
+certificate-requires c κs =
+    let m = about-it (c .before .before) in
+    search (m, needs)
+
+delete-certificate-requires-2 : tie.Need-delete-certificate-requires-2
+delete-certificate-requires-2 c κs =
+    let m = about-it (c .before .before .before .before) in
+    search (m, needs)
+
+settle-own-requires : tie.Need-settle-own-requires
+unfolding effect delete-certificate
+settle-own-requires c κs =
+    let w = c .before .before .before in
+    let m = about-it (on w) in
+    let a = start (on w) in
+    let e = with-kind 6 (a .args .e) in
+    let own = delete-own _ (accepted-phone _ (a .pre .0)) (a .args .e) (m .id) (about-named m (w .before .before .certificate .ensures)) in
+    (settle-framed _ e (w .delete-certificate2 .ensures) (a .pre .0), said-own _ e (w .delete-certificate2 .ensures) _ own)
+
+same-length : tie.Need-same-length
+same-length c = search needs
+
+returns : tie.Need-returns
+returns c = search (plan-handled, needs)
+
+same-length-2 : tie.Need-same-length-2
+same-length-2 c = search needs
+
+returns-2 : tie.Need-returns-2
+unfolding effect delete-certificate done
+returns-2 c =
+    let m = about-it (on (c .before .before .before .before .before .before)) in
+    search (handled-settled, m, needs)
+
+pub delete-certificate-spec : {M : Type 1} → statement M
+delete-certificate-spec =
+    tie.close
+    (tie.spec
+    delete-certificate-requires
+    enum-known-code
+    refused-requires
+    enum-known-slot
+    certificate-requires
+    delete-certificate-requires-2
+    settle-own-requires
+    same-length
+    returns
+    same-length-2
+    returns-2)

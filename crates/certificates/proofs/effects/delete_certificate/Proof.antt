@@ -1,0 +1,24 @@
+use mathlib.Core.Path.{refl}
+use borrow.Author.Needs.{needs}
+use Rattle.records.specs.Phone.{no-certificate}
+use Rattle.rules.specs.Effects.{delete-certificate}
+use Rattle.rules.proofs.Tables.{certificates}
+use Rattle.handling.proofs.SlotWrites.{write-is-change}
+use Rattle.certificates.proofs.effects.delete_certificate.Statement.{statement}
+use Rattle.certificates.proofs.effects.delete_certificate.Tie as tie
+
+clear-certificate-requires : tie.Need-clear-certificate-requires
+clear-certificate-requires c κs = search needs
+
+same-length : tie.Need-same-length
+same-length c = search needs
+
+returns : tie.Need-returns
+unfolding delete-certificate
+returns c =
+    let z = c .before .before .before .before .before in
+    write-is-change certificates (z .args .e .id) (λ x. no-certificate) (z .pre .0) (z .pre .1 .0) (z .pre .1 .1 .0) (z .pre .1 .1 .1) refl
+    (c .before .before .clear-certificate .ensures)
+
+pub delete-certificate-spec : {M : Type 1} → statement M
+delete-certificate-spec = tie.close (tie.spec clear-certificate-requires same-length returns)

@@ -1,0 +1,24 @@
+use mathlib.Core.Path.{refl}
+use borrow.Author.Needs.{needs}
+use Rattle.records.specs.Phone.{marked}
+use Rattle.rules.specs.Effects.{mark-invalid}
+use Rattle.rules.proofs.Tables.{certificates}
+use Rattle.handling.proofs.SlotWrites.{write-is-change}
+use Rattle.certificates.proofs.effects.mark_invalid.Statement.{statement}
+use Rattle.certificates.proofs.effects.mark_invalid.Tie as tie
+
+set-mark-requires : tie.Need-set-mark-requires
+set-mark-requires c κs = search needs
+
+same-length : tie.Need-same-length
+same-length c = search needs
+
+returns : tie.Need-returns
+unfolding mark-invalid
+returns c =
+    let z = c .before .before .before .before .before in
+    write-is-change certificates (z .args .e .id) (marked 0) (z .pre .0) (z .pre .1 .0) (z .pre .1 .1 .0) (z .pre .1 .1 .1) refl
+    (c .before .before .set-mark .ensures)
+
+pub mark-invalid-spec : {M : Type 1} → statement M
+mark-invalid-spec = tie.close (tie.spec set-mark-requires same-length returns)

@@ -1,0 +1,83 @@
+use Rattle.records.specs.Phone.{decode}
+use Rattle.rules.specs.Forms.{with-kind}
+use Rattle.rules.specs.Effects.{effect, mark-invalid}
+use Rattle.rules.specs.Step.{done}
+use Rattle.handling.proofs.Handles.{plan-handled, settle-framed, said-own, handled-settled, accepted-phone}
+use Rattle.certificates.proofs.NamedCertificate.{About, about, about-named}
+use Rattle.certificates.proofs.MarksAndMessages.{invalid-own}
+use borrow.Author.Needs.{needs}
+use Rattle.certificates.proofs.mark_invalid.Statement.{statement}
+use Rattle.certificates.proofs.mark_invalid.Tie as tie
+
+abbrev start : tie.After-slot → tie.Start
+start c = c .before .before .before .before .before
+
+-- before the write
+abbrev on : tie.After-mark-invalid2 → tie.After-slot
+on c = c .before .before .before .before .before
+
+about-it : (c : tie.After-slot) → About 8 (decode (start c .args .s .now)) (start c .args .e) (c .slot .given .0 .0)
+about-it c = about 8 _ (start c .args .e) tt (λ h. h) (c .before .before .mark-invalid .ensures) (c .slot .given .1)
+
+mark-invalid-requires : tie.Need-mark-invalid-requires
+mark-invalid-requires c κs = search needs
+
+enum-known-code : tie.Need-enum-known-code
+enum-known-code c = search needs
+
+refused-requires : tie.Need-refused-requires
+refused-requires c κs = search needs
+
+enum-known-slot : tie.Need-enum-known-slot
+enum-known-slot c = search needs
+
+certificate-requires : tie.Need-certificate-requires
+certificate-requires c κs =
+    let m = about-it (c .before .before) in
+    search (m, needs)
+
+mark-invalid-requires-2 : tie.Need-mark-invalid-requires-2
+mark-invalid-requires-2 c κs =
+    let m = about-it (c .before .before .before .before) in
+    search (m, needs)
+
+settle-own-requires : tie.Need-settle-own-requires
+unfolding effect mark-invalid
+settle-own-requires c κs =
+    let w = c .before .before .before in
+    let m = about-it (on w) in
+    let a = start (on w) in
+    let e = with-kind 8 (a .args .e) in
+    let own = invalid-own _ (accepted-phone _ (a .pre .0)) (a .args .e) (m .id) (about-named m (w .before .before .certificate .ensures)) in
+    (settle-framed _ e (w .mark-invalid2 .ensures) (a .pre .0), said-own _ e (w .mark-invalid2 .ensures) _ own)
+
+same-length : tie.Need-same-length
+same-length c = search needs
+
+returns : tie.Need-returns
+returns c = search (plan-handled, needs)
+
+same-length-2 : tie.Need-same-length-2
+same-length-2 c = search needs
+
+returns-2 : tie.Need-returns-2
+unfolding effect mark-invalid done
+returns-2 c =
+    let m = about-it (on (c .before .before .before .before .before .before)) in
+    search (handled-settled, m, needs)
+
+pub mark-invalid-spec : {M : Type 1} → statement M
+mark-invalid-spec =
+    tie.close
+    (tie.spec
+    mark-invalid-requires
+    enum-known-code
+    refused-requires
+    enum-known-slot
+    certificate-requires
+    mark-invalid-requires-2
+    settle-own-requires
+    same-length
+    returns
+    same-length-2
+    returns-2)

@@ -1,0 +1,3 @@
+pub mod Decisions
+pub mod StoredCertificate
+pub mod MarkingRows

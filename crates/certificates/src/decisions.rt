@@ -1,0 +1,250 @@
+// What is decided of an event about certificates, on an image that nothing is written to.
+use handling::Plan;
+use lookup::CertificateRoom;
+use records::Certificate;
+use records::Event;
+use records::image;
+use terms::actors;
+use terms::forms;
+ghost use Prim.Native.Nat.{_<_, _≤_};
+ghost use mathlib.Core.Path.{_≡_};
+ghost use Rattle.handling.specs.Plans.{on-certificate, for-certificate};
+ghost use Rattle.certificates.specs.Decisions.{of-other-card, of-other-operator, certificate-plan, listed-code};
+ghost use Rattle.certificates.specs.MarkingRows.{marking-rows};
+ghost use Rattle.rules.specs.AcceptedImage.{Accepted-image};
+ghost use Rattle.records.specs.Frame.{Framed};
+ghost use Rattle.records.specs.Phone.{decode};
+ghost use Rattle.rules.specs.Codes.{code-of, rival};
+ghost use Rattle.rules.specs.Forms.{with-kind};
+ghost use Rattle.rules.specs.Words.{any, first};
+
+// Whether c is an operator root for a card of another operator.
+fn of_other_card(s: &[u8], c: Certificate) -> bool
+    requires { ⌜ Framed (now s) ⌝ }
+    ensures { λ r. ⌜ r ≡ of-other-card (decode (now (s .entry))) c ⌝ }
+{
+    if terms::on_a_card(c) {
+        return c.owner != lookup::operator_of(s, c.place);
+    }
+    false
+}
+
+// 5 install certificate
+pub fn install_certificate(s: &[u8], e: Event) -> Plan
+    requires { ⌜ Accepted-image (now s) ⌝ }
+    requires { ⌜ e .actor < 5 ⌝ }
+    ensures { λ r. ⌜ r ≡ for-certificate 5 (decode (now (s .entry))) e ⌝ }
+{
+    let c = forms::new_certificate(image::mode(s), e);
+    if !terms::certificate_fits(c) {
+        return Plan::Refused(2);
+    }
+    if !actors::may_act(Event::INSTALL_CERTIFICATE, c.domain, e.actor) {
+        return Plan::Refused(4);
+    }
+    if !lookup::known_place(s, c.place) {
+        return Plan::Refused(6);
+    }
+    if !terms::is_present(s, c) {
+        return Plan::Refused(8);
+    }
+    // Told behind 9 and 10, and before 14.
+    let other = of_other_card(s, c);
+    match lookup::certificate_room(s, c.id, c.key, c.domain) {
+        CertificateRoom::Taken => Plan::Refused(9),
+        CertificateRoom::Elsewhere => Plan::Refused(10),
+        CertificateRoom::Full => {
+            if other {
+                return Plan::Refused(11);
+            }
+            Plan::Refused(14)
+        }
+        CertificateRoom::Free(slot) => {
+            if other {
+                return Plan::Refused(11);
+            }
+            Plan::On(slot)
+        }
+    }
+}
+
+// What stands against an event of a kind on the certificate that it names, besides its form.
+fn on_certificate(s: &[u8], e: Event, kind: u8) -> Plan
+    requires { ⌜ Accepted-image (now s) ⌝ }
+    requires { ⌜ (kind < 16) × (e .actor < 5) ⌝ }
+    ensures { λ r. ⌜ r ≡ certificate-plan kind (decode (now (s .entry))) e ⌝ }
+{
+    let slot = lookup::certificate_slot(s, e.id);
+    if image::certificate_slots(s) <= slot {
+        return Plan::Refused(3);
+    }
+    let c = image::certificate(s, slot);
+    if !actors::may_act(kind, c.domain, e.actor) {
+        return Plan::Refused(4);
+    }
+    if !terms::is_present(s, c) {
+        return Plan::Refused(8);
+    }
+    Plan::On(slot)
+}
+
+// 6 delete certificate
+pub fn delete_certificate(s: &[u8], e: Event) -> Plan
+    requires { ⌜ Accepted-image (now s) ⌝ }
+    requires { ⌜ e .actor < 5 ⌝ }
+    ensures { λ r. ⌜ r ≡ on-certificate 6 (decode (now (s .entry))) e ⌝ }
+{
+    if !forms::id_form(e) {
+        return Plan::Refused(2);
+    }
+    on_certificate(s, e, Event::DELETE_CERTIFICATE)
+}
+
+// Whether x, valid, stands in the way of marking c valid.
+fn is_rival(s: &[u8], c: Certificate, x: Certificate) -> bool
+    requires { ⌜ Framed (now s) ⌝ }
+    ensures { λ r. ⌜ r ≡ rival (decode (now (s .entry)) .trust .seen) c x ⌝ }
+{
+    if (x.id == c.id) | !terms::valid_root(image::clock(s), x) | (x.domain != c.domain) {
+        return false;
+    }
+    if c.domain == records::MANUFACTURER {
+        return true;
+    }
+    if c.domain != records::OPERATOR {
+        return false;
+    }
+    if c.place == 0 {
+        return terms::is_present(s, x);
+    }
+    x.place == c.place
+}
+
+fn has_rival(s: &[u8], c: Certificate) -> bool
+    requires { ⌜ Framed (now s) ⌝ }
+    ensures { λ r. ⌜ r ≡ any (rival (decode (now (s .entry)) .trust .seen) c) (decode (now (s .entry)) .trust .certificates) ⌝ }
+{
+    let slots = image::certificate_slots(s);
+    let mut i: usize = 0;
+    while i < slots {
+        if is_rival(s, c, image::certificate(s, i)) {
+            return true;
+        }
+        i += 1;
+    }
+    false
+}
+
+// Whether c is an operator root on the phone while a card of another operator is present.
+fn of_other_operator(s: &[u8], c: Certificate) -> bool
+    requires { ⌜ Framed (now s) ⌝ }
+    ensures { λ r. ⌜ r ≡ of-other-operator (decode (now (s .entry))) c ⌝ }
+{
+    let card = image::card_present(s);
+    if terms::is_phone_operator_root(c) & (card != 0) {
+        return c.owner != lookup::operator_of(s, card);
+    }
+    false
+}
+
+// What stands against marking c valid, besides its mark: 0, or 11, 12 or 13.
+fn judge_marking(s: &[u8], c: Certificate) -> u8
+    requires { ⌜ Framed (now s) ⌝ }
+    ensures { λ r. ⌜ r ≡ first (marking-rows (decode (now (s .entry))) c) ⌝ }
+{
+    if of_other_operator(s, c) {
+        return 11;
+    }
+    if c.kind == Certificate::ISSUED {
+        return 12;
+    }
+    if has_rival(s, c) {
+        return 13;
+    }
+    0
+}
+
+// 7 mark valid
+pub fn mark_valid(s: &[u8], e: Event) -> Plan
+    requires { ⌜ Accepted-image (now s) ⌝ }
+    requires { ⌜ e .actor < 5 ⌝ }
+    ensures { λ r. ⌜ r ≡ on-certificate 7 (decode (now (s .entry))) e ⌝ }
+{
+    if !forms::id_form(e) {
+        return Plan::Refused(2);
+    }
+    match on_certificate(s, e, Event::MARK_VALID) {
+        Plan::Refused(code) => Plan::Refused(code),
+        Plan::On(slot) => {
+            let told = judge_marking(s, image::certificate(s, slot));
+            if told != 0 {
+                return Plan::Refused(told);
+            }
+            Plan::On(slot)
+        }
+    }
+}
+
+// 8 mark invalid
+pub fn mark_invalid(s: &[u8], e: Event) -> Plan
+    requires { ⌜ Accepted-image (now s) ⌝ }
+    requires { ⌜ e .actor < 5 ⌝ }
+    ensures { λ r. ⌜ r ≡ on-certificate 8 (decode (now (s .entry))) e ⌝ }
+{
+    if !forms::id_form(e) {
+        return Plan::Refused(2);
+    }
+    match on_certificate(s, e, Event::MARK_INVALID) {
+        Plan::Refused(code) => Plan::Refused(code),
+        Plan::On(slot) => {
+            if image::certificate(s, slot).kind == Certificate::ISSUED {
+                return Plan::Refused(12);
+            }
+            Plan::On(slot)
+        }
+    }
+}
+
+// What stands against a message for the certificates that it lists: 3 where one is unknown, else 12 where one is no third party root.
+fn judge_listed(s: &[u8], e: Event) -> u8
+    requires { ⌜ Framed (now s) ⌝ }
+    requires { ⌜ e .fourth ≤ 8 ⌝ }
+    ensures { λ r. ⌜ r ≡ listed-code (decode (now (s .entry))) e ⌝ }
+{
+    let n = e.fourth as usize;
+    let slots = image::certificate_slots(s);
+    let mut told: u8 = 0;
+    let mut i: usize = 0;
+    while i < n {
+        let slot = lookup::certificate_slot(s, forms::listed_id(e, i));
+        i += 1;
+        if slots <= slot {
+            return 3;
+        }
+        let c = image::certificate(s, slot);
+        if terms::is_third_party_root(c) {
+            continue;
+        }
+        told = 12;
+    }
+    told
+}
+
+// 9 configuration message
+pub fn message(s: &[u8], e: Event) -> u8
+    requires { ⌜ Accepted-image (now s) ⌝ }
+    requires { ⌜ e .actor < 5 ⌝ }
+    ensures { λ r. ⌜ (r ≡ code-of (decode (now (s .entry))) (with-kind 9 e)) × (r ≡ 0 → e .fourth ≤ 8) ⌝ }
+{
+    if !forms::message_form(e) {
+        return 2;
+    }
+    let told = judge_listed(s, e);
+    if told == 3 {
+        return 3;
+    }
+    if !actors::may_act(Event::MESSAGE, 0, e.actor) {
+        return 4;
+    }
+    told
+}

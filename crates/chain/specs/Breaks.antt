@@ -1,0 +1,17 @@
+-- What can leave an executable without its chain. Definitions only.
+use Prim.Native.Nat.{ℕ}
+use mathlib.Core.Bool.{Bool, not, _&&_}
+use lib.Dec.{eqb}
+use Rattle.records.specs.declared.Certificate.{Certificate}
+use Rattle.records.specs.declared.Event.{Event}
+use Rattle.rules.specs.Chains.{in-date}
+use Rattle.rules.specs.ImageRules.{third-party-root}
+use Rattle.rules.specs.Effects.{enabled-by}
+
+-- an issued record that is in date at the clock, and no longer at t
+unfoldable pub runs-out : ℕ → ℕ → Certificate → Bool
+runs-out clock t c = eqb (c .kind) 1 && in-date clock c && not (in-date t c)
+
+-- a third party root that is enabled, and no longer after a message
+unfoldable pub disables : Event → Certificate → Bool
+disables e c = third-party-root c && eqb (c .enabled) 1 && not (eqb (enabled-by e c) 1)

@@ -1,0 +1,3 @@
+pub mod DeviceCodes
+pub mod DeviceDone
+pub mod TimeAndCard

@@ -1,0 +1,85 @@
+use mathlib.Core.Bool.{true}
+use mathlib.Core.Path.{_≡_, sym, _∙_}
+use borrow.Author.Needs.{needs}
+use Rattle.records.specs.Phone.{decode}
+use Rattle.rules.specs.Forms.{with-kind}
+use Rattle.rules.specs.Codes.{code-of}
+use Rattle.handling.proofs.Handles.{handled-refused}
+use Rattle.device.proofs.DeviceDone.{Effected, put-in, put-in-only, settle-asks, settle-ends}
+use Rattle.device.proofs.card_in.Statement.{statement}
+use Rattle.device.proofs.card_in.Tie as tie
+
+abbrev start : tie.After-has-valid-operator → tie.Start
+start c = c .before .before .before .before .before .before
+
+-- it is not refused
+decided : (c : tie.After-has-valid-operator) → code-of (decode (start c .args .s .now)) (with-kind 2 (start c .args .e)) ≡ 0
+decided c = sym (c .before .before .before .card-in .ensures) ∙ c .before .before .if1 .left
+
+effected : (c : tie.After-card-in2) → let a = start (c .before .before .before) .args in Effected 2 (a .s .now) (a .e) (c .card-in2 .last .0) true
+effected c = let z = start (c .before .before .before) in put-in (z .args .e) (z .pre .0) (c .card-in2 .ensures)
+
+card-in-requires : tie.Need-card-in-requires
+card-in-requires c κs = search needs
+
+refused-requires : tie.Need-refused-requires
+refused-requires c κs = search needs
+
+same-length : tie.Need-same-length
+same-length c = search needs
+
+returns : tie.Need-returns
+returns c = search handled-refused
+
+has-valid-operator-requires : tie.Need-has-valid-operator-requires
+has-valid-operator-requires c κs = search needs
+
+card-only-requires : tie.Need-card-only-requires
+card-only-requires c κs = search needs
+
+done-requires : tie.Need-done-requires
+done-requires c κs = search needs
+
+same-length-2 : tie.Need-same-length-2
+same-length-2 c = search needs
+
+returns-2 : tie.Need-returns-2
+returns-2 c =
+    let wrote = c .before .before .before in
+    let none = wrote .before .before in
+    let z = start (none .before) in
+    put-in-only (z .args .e) (z .pre .0) (decided (none .before)) (none .before .has-valid-operator .ensures) (none .if2 .taken) (c .done .ensures)
+    (wrote .card-only .ensures)
+
+card-in-requires-2 : tie.Need-card-in-requires-2
+card-in-requires-2 c κs = search needs
+
+settle-requires : tie.Need-settle-requires
+settle-requires c κs = let asks = settle-asks (effected (c .before .before .before)) in (asks .0, asks .1 .0)
+
+same-length-3 : tie.Need-same-length-3
+same-length-3 c = search needs
+
+returns-3 : tie.Need-returns-3
+returns-3 c =
+    let end = c .before .before in
+    let wrote = end .before .before .before .before in
+    settle-ends (effected wrote) (decided (wrote .before .before .before)) (end .settle .ensures)
+
+pub card-in-spec : {M : Type 1} → statement M
+card-in-spec =
+    tie.close
+    (tie.spec
+    card-in-requires
+    refused-requires
+    same-length
+    returns
+    has-valid-operator-requires
+    card-only-requires
+    done-requires
+    same-length-2
+    returns-2
+    card-in-requires-2
+    settle-requires
+    same-length-3
+    returns-3)

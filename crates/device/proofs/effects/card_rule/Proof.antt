@@ -1,0 +1,50 @@
+use mathlib.Core.Path.{ap, ap₂, _∙_}
+use mathlib.Core.List.{map}
+use borrow.Author.Needs.{needs}
+use Rattle.records.specs.Phone.{decode, encode, with-certificates}
+use Rattle.rules.specs.ImageRules.{has-valid-operator, operator-of}
+use Rattle.rules.specs.Effects.{card-rule, retired}
+use Rattle.handling.specs.Retiring.{outgoing, retire}
+use Rattle.device.proofs.effects.card_rule.Statement.{statement}
+use Rattle.device.proofs.effects.card_rule.Tie as tie
+
+abbrev start : tie.After-card-present → tie.Start
+start c = c .before .before .before
+
+card-present-requires : tie.Need-card-present-requires
+card-present-requires c κs = search needs
+
+has-valid-operator-requires : tie.Need-has-valid-operator-requires
+has-valid-operator-requires c κs = search needs
+
+operator-of-requires : tie.Need-operator-of-requires
+operator-of-requires c κs = search needs
+
+retire-requires : tie.Need-retire-requires
+retire-requires c κs = search needs
+
+same-length : tie.Need-same-length
+same-length c = search needs
+
+returns : tie.Need-returns
+unfolding card-rule retired outgoing
+returns c =
+    let operator = c .before .before .before .before in
+    let owned = operator .before .before in
+    let card = owned .before .before in
+    let p = decode (start card .args .s .now) in
+    c .before .before .retire .ensures
+    ∙ ap₂ (λ v o. encode (with-certificates (map (retire v o) (p .trust .certificates)) p))
+    (owned .has-valid-operator .ensures ∙ ap (has-valid-operator (p .trust)) (card .card-present .ensures))
+    (operator .operator-of .ensures ∙ ap (operator-of (p .cards)) (card .card-present .ensures))
+
+pub card-rule-spec : {M : Type 1} → statement M
+card-rule-spec =
+    tie.close
+    (tie.spec
+    card-present-requires
+    has-valid-operator-requires
+    operator-of-requires
+    retire-requires
+    same-length
+    returns)

@@ -1,0 +1,65 @@
+-- Kinds 10 to 15 touch no chain: after their effect there is nothing to settle. Assumes nothing.
+use mathlib.Core.Bool.{Bool}
+use mathlib.Core.List.{List·Memᴰ, Memᴰ·of-map}
+use mathlib.Core.Logic.{_≢_, _⊎_, inl, inr}
+use mathlib.Core.Path.{_≡_, refl, sym, subst, _∙_}
+use lib.Dec.{T}
+use Rattle.bits.specs.Bits.{set-bit, clear-bit}
+use Rattle.records.specs.Phone.{Phone, no-executable, permitted}
+use Rattle.records.specs.declared.Executable.{Executable}
+use Rattle.records.specs.declared.Event.{Event}
+use Rattle.rules.specs.Words.{at, fill, change}
+use Rattle.rules.specs.Chains.{chains-to}
+use Rattle.rules.specs.Forms.{with-kind}
+use Rattle.rules.specs.Codes.{is-executable}
+use Rattle.rules.specs.Effects.{effect, changed, install-executable, delete-executable, give, withdraw}
+use Rattle.rules.proofs.Accepted.{Accepted}
+use Rattle.rules.proofs.Lists.{fill-out}
+use Rattle.rules.proofs.Changes.{at-cases}
+use Rattle.keeping.proofs.Settle.{settle-still, request-changed}
+use Rattle.keeping.proofs.Verified.{verify-effect, verify-changed}
+
+module _ (p : Phone) (ok : Accepted p) where
+  -- it chains to the domain that it has, if it has one
+  Chained : Executable → Type 0
+  Chained x = x .domain ≢ 0 → T (chains-to (p .trust) (x .signing) (x .domain))
+
+  filled-chained : (t : Executable → Bool) (y : Executable) → Chained y → (x : Executable) → List·Memᴰ x (fill t y (p .executables)) → Chained x
+  unfolding Chained
+  filled-chained t y h x m = go (fill-out t y (p .executables) x m)
+    where
+      go : (x ≡ y) ⊎ List·Memᴰ x (p .executables) → Chained x
+      go (inl e) = subst Chained (sym e) h
+      go (inr n) = ok .chained x n
+
+  changed-chained : (t : Executable → Bool) (f : Executable → Executable) → ((x : Executable) → Chained x → Chained (f x))
+      → (x : Executable) → List·Memᴰ x (change t f (p .executables)) → Chained x
+  unfolding Chained
+  changed-chained t f h x m =
+      let o = Memᴰ·of-map (at t f) (p .executables) m in
+      let c : Chained (o .0) = ok .chained (o .0) (o .1) in
+      subst Chained (o .2) (at-cases (λ y z. Chained y) t f (o .0) (λ b. h (o .0) c) (λ b. c))
+
+  module _ (e : Event) where
+    pub install-still : changed (with-kind 10 e) p ≡ effect (with-kind 10 e) p
+    unfolding Chained changed effect install-executable
+    install-still = settle-still (install-executable e p) (filled-chained _ _ (λ z. absurd (z refl)))
+
+    pub delete-still : changed (with-kind 11 e) p ≡ effect (with-kind 11 e) p
+    unfolding Chained changed effect delete-executable
+    delete-still = settle-still (delete-executable e p) (changed-chained (is-executable (e .id)) (λ x. no-executable) (λ x c z. absurd (z refl)))
+
+    pub verify-still : changed (with-kind 12 e) p ≡ effect (with-kind 12 e) p
+    verify-still = verify-changed p (with-kind 12 e) ok refl ∙ sym (verify-effect p (with-kind 12 e) refl)
+
+    pub give-still : changed (with-kind 13 e) p ≡ effect (with-kind 13 e) p
+    unfolding Chained changed effect give
+    give-still = settle-still (give e p) (changed-chained (is-executable (e .id)) (λ x. permitted (set-bit (x .permissions) (e .second)) x) (λ x c. c))
+
+    pub withdraw-still : changed (with-kind 14 e) p ≡ effect (with-kind 14 e) p
+    unfolding Chained changed effect withdraw
+    withdraw-still =
+        settle-still (withdraw e p) (changed-chained (is-executable (e .id)) (λ x. permitted (clear-bit (x .permissions) (e .second)) x) (λ x c. c))
+
+    pub request-unchanged : changed (with-kind 15 e) p ≡ p
+    request-unchanged = request-changed p ok (with-kind 15 e) refl

@@ -1,0 +1,24 @@
+use mathlib.Core.Path.{refl}
+use borrow.Author.Needs.{needs}
+use Rattle.records.specs.Phone.{no-executable}
+use Rattle.rules.specs.Effects.{delete-executable}
+use Rattle.rules.proofs.Tables.{executables}
+use Rattle.handling.proofs.SlotWrites.{write-is-change}
+use Rattle.executables.proofs.effects.delete_executable.Statement.{statement}
+use Rattle.executables.proofs.effects.delete_executable.Tie as tie
+
+clear-executable-requires : tie.Need-clear-executable-requires
+clear-executable-requires c κs = search needs
+
+same-length : tie.Need-same-length
+same-length c = search needs
+
+returns : tie.Need-returns
+unfolding delete-executable
+returns c =
+    let z = c .before .before .before .before .before in
+    write-is-change executables (z .args .e .id) (λ x. no-executable) (z .pre .0) (z .pre .1 .0) (z .pre .1 .1 .0) (z .pre .1 .1 .1) refl
+    (c .before .before .clear-executable .ensures)
+
+pub delete-executable-spec : {M : Type 1} → statement M
+delete-executable-spec = tie.close (tie.spec clear-executable-requires same-length returns)

@@ -1,0 +1,21 @@
+use borrow.Author.Needs.{needs}
+use Rattle.rules.specs.Effects.{install-executable}
+use Rattle.rules.proofs.Tables.{executables}
+use Rattle.handling.proofs.SlotWrites.{write-is-fill}
+use Rattle.executables.proofs.effects.install_executable.Statement.{statement}
+use Rattle.executables.proofs.effects.install_executable.Tie as tie
+
+write-executable-requires : tie.Need-write-executable-requires
+write-executable-requires c κs = search needs
+
+same-length : tie.Need-same-length
+same-length c = search needs
+
+returns : tie.Need-returns
+unfolding install-executable
+returns c =
+    let z = c .before .before .before .before .before in
+    write-is-fill executables _ (z .pre .0) (z .pre .1 .0) (z .pre .1 .1) (c .before .before .write-executable .ensures)
+
+pub install-executable-spec : {M : Type 1} → statement M
+install-executable-spec = tie.close (tie.spec write-executable-requires same-length returns)

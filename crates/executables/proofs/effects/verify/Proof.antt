@@ -1,0 +1,37 @@
+use mathlib.Core.Path.{ap, _∙_}
+use borrow.Author.Needs.{needs}
+use Rattle.rules.specs.Chains.{chain-of}
+use Rattle.records.specs.Phone.{decode}
+use Rattle.executables.proofs.ExecutableWrites.{domain-written}
+use Rattle.executables.proofs.effects.verify.Statement.{statement}
+use Rattle.executables.proofs.effects.verify.Tie as tie
+
+abbrev start : tie.After-chain-of → tie.Start
+start c = c .before .before .before .before
+
+executable-requires : tie.Need-executable-requires
+executable-requires c κs = search needs
+
+chain-of-requires : tie.Need-chain-of-requires
+chain-of-requires c κs = search needs
+
+set-domain-requires : tie.Need-set-domain-requires
+set-domain-requires c κs = search needs
+
+same-length : tie.Need-same-length
+same-length c = search needs
+
+returns : tie.Need-returns
+returns c =
+    let told = c .before .before .before .before in
+    let z = start told in
+    let read = told .before .executable .ensures in (
+      domain-written (z .args .e) (z .pre .0) (z .pre .1 .0) (z .pre .1 .1 .0) (z .pre .1 .1 .1)
+          read (told .chain-of .ensures) (c .before .before .set-domain .ensures),
+      told .chain-of .ensures ∙ ap (λ x. chain-of (decode (z .args .s .now) .trust) (x .signing)) read,
+    )
+
+pub verify-spec : {M : Type 1} → statement M
+verify-spec =
+    tie.close
+    (tie.spec executable-requires chain-of-requires set-domain-requires same-length returns)

@@ -1,0 +1,54 @@
+use borrow.Author.Needs.{needs}
+use Rattle.handling.proofs.Handles.{plan-handled}
+use Rattle.executables.proofs.ActsOnExecutable.{Acts, acts-named}
+use Rattle.executables.proofs.ExecutablesDone.{request-done}
+use Rattle.executables.proofs.request.Statement.{statement}
+use Rattle.executables.proofs.request.Tie as tie
+
+abbrev start : tie.After-request → tie.Start
+start c = c .before .before
+
+-- it is done, on the slot that was decided
+acts : (c : tie.After-slot) → let a = start (c .before .before) .args in Acts 15 (a .e .id) (a .s .now) (a .e) (c .slot .given .0 .0)
+acts c = let z = start (c .before .before) in acts-named 15 _ (z .args .e) (z .pre .0) tt (c .before .before .request .ensures) (c .slot .given .1)
+
+request-requires : tie.Need-request-requires
+request-requires c κs = search needs
+
+enum-known-code : tie.Need-enum-known-code
+enum-known-code c = search needs
+
+refused-requires : tie.Need-refused-requires
+refused-requires c κs = search needs
+
+enum-known-slot : tie.Need-enum-known-slot
+enum-known-slot c = search needs
+
+executable-requires : tie.Need-executable-requires
+executable-requires c κs = let a = acts (c .before) in (a .accepted .framed, a .within)
+
+links-of-requires : tie.Need-links-of-requires
+links-of-requires c κs = search needs
+
+done-requires : tie.Need-done-requires
+done-requires c κs = search needs
+
+returns : tie.Need-returns
+returns c = search plan-handled
+
+returns-2 : tie.Need-returns-2
+returns-2 c = request-done (acts (c .before .before .before .before)) (c .before .before .executable .ensures) (c .before .links-of .ensures) (c .done .ensures)
+
+pub request-spec : {M : Type 1} → statement M
+request-spec =
+    tie.close
+    (tie.spec
+    request-requires
+    enum-known-code
+    refused-requires
+    enum-known-slot
+    executable-requires
+    links-of-requires
+    done-requires
+    returns
+    returns-2)

@@ -1,0 +1,18 @@
+-- What is decided and told of the executable that an event names. Definitions only.
+use Prim.Native.Nat.{ℕ}
+use Rattle.records.specs.Phone.{Phone, executable-at}
+use Rattle.records.specs.declared.Event.{Event}
+use Rattle.rules.specs.declared.Chained.{Chained}
+use Rattle.rules.specs.Words.{first, first-place}
+use Rattle.rules.specs.Chains.{chain-of}
+use Rattle.rules.specs.Codes.{is-executable}
+use Rattle.handling.specs.declared.Plan.{Plan}
+use Rattle.handling.specs.Plans.{plan, executable-rows}
+
+-- what stands against an event of kind k on the executable that it names, besides its form, or the slot of that executable
+abbrev pub acting : ℕ → Phone → Event → Plan
+acting k p e = plan (first (executable-rows k p e)) (first-place (is-executable (e .id)) (p .executables))
+
+-- what the executable in slot i chains to
+abbrev pub chained-at : Phone → ℕ → Chained
+chained-at p i = chain-of (p .trust) (executable-at p i .signing)

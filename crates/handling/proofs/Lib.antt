@@ -1,0 +1,9 @@
+pub mod CodeRows
+pub mod Decided
+pub mod FirstWithin
+pub mod Handles
+pub mod Named
+pub mod PlanLaws
+pub mod Retires
+pub mod TheTable
+pub mod SlotWrites

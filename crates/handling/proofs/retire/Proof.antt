@@ -1,0 +1,88 @@
+use Prim.Native.Nat.{_-_}
+use native.Mathlib.Omega.{arith}
+use borrow.Author.Tests.{not-true, not-false}
+use borrow.Author.Needs.{needs}
+use Rattle.handling.specs.Retiring.{retire}
+use Rattle.rules.proofs.Tables.{certificates}
+use Rattle.rules.proofs.SlotSweeps.{Sweeping, sweep-starts, sweep-goes-on, sweep-skips, sweep-ends}
+use Rattle.handling.proofs.Retires.{retire-written, retire-skipped}
+use Rattle.handling.proofs.retire.Statement.{statement}
+use Rattle.handling.proofs.retire.Tie as tie
+
+abbrev Inv-loop : tie.InvT-loop
+Inv-loop s₀ every operator slots i₀ s i = Sweeping certificates (retire every operator) s₀ s slots i
+
+abbrev μ-loop : tie.MeasureT-loop
+μ-loop s₀ every operator slots i₀ s i = slots - i
+
+certificate-slots-requires : tie.Need-certificate-slots-requires Inv-loop μ-loop
+certificate-slots-requires c κs = search needs
+
+loop-holds : tie.Need-loop-holds Inv-loop μ-loop
+loop-holds c = sweep-starts certificates _ (c .before .before .before .pre) (c .certificate-slots .ensures .0)
+
+certificate-requires : tie.Need-certificate-requires Inv-loop μ-loop
+certificate-requires c κs = search needs
+
+is-outgoing-requires : tie.Need-is-outgoing-requires Inv-loop μ-loop
+is-outgoing-requires c κs = search needs
+
+add-i : tie.Need-add-i Inv-loop μ-loop
+add-i c = search needs
+
+loop-less : tie.Need-loop-less Inv-loop μ-loop
+loop-less c = search needs
+
+loop-again : tie.Need-loop-again Inv-loop μ-loop
+loop-again c =
+    let r = c .before .before in
+    let v = r .before .before .before in
+    let a = v .before .before .before .before .args in
+    sweep-skips certificates _ (v .loop .inv) (omega arith)
+    (retire-skipped (a .every) (a .operator) (r .certificate .ensures) (c .before .is-outgoing .ensures) (not-true _ (c .if1 .taken)))
+
+set-mark-requires : tie.Need-set-mark-requires Inv-loop μ-loop
+set-mark-requires c κs = search needs
+
+add-i-2 : tie.Need-add-i-2 Inv-loop μ-loop
+add-i-2 c = search needs
+
+loop-less-2 : tie.Need-loop-less-2 Inv-loop μ-loop
+loop-less-2 c = search needs
+
+loop-again-2 : tie.Need-loop-again-2 Inv-loop μ-loop
+loop-again-2 c =
+    let w = c .before .before in
+    let i = w .before .before in
+    let r = i .before .before in
+    let v = r .before .before .before in
+    let a = v .before .before .before .before .args in
+    sweep-goes-on certificates _ (v .loop .inv) (omega arith) (search needs)
+    (retire-written (a .every) (a .operator) (r .certificate .ensures) (i .before .is-outgoing .ensures) (not-false _ (i .if1 .left)))
+    (w .set-mark .ensures)
+
+same-length : tie.Need-same-length Inv-loop μ-loop
+same-length c = search needs
+
+returns : tie.Need-returns Inv-loop μ-loop
+returns c = sweep-ends certificates _ (c .before .loop .inv) (omega arith)
+
+pub retire-spec : {M : Type 1} → statement M
+retire-spec =
+    tie.close
+    (tie.spec
+    Inv-loop
+    μ-loop
+    certificate-slots-requires
+    loop-holds
+    certificate-requires
+    is-outgoing-requires
+    add-i
+    loop-less
+    loop-again
+    set-mark-requires
+    add-i-2
+    loop-less-2
+    loop-again-2
+    same-length
+    returns)

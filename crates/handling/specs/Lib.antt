@@ -1,0 +1,3 @@
+pub mod Handled
+pub mod Plans
+pub mod Retiring

@@ -1,0 +1,69 @@
+-- What a code 0 says of the phone and the event. Assumes nothing.
+use Prim.Native.Nat.{_<_}
+use mathlib.Core.Bool.{not, _&&_}
+use mathlib.Core.Logic.{_≢_}
+use lib.Dec.{T, eqb, leb, ltb→lt}
+use lib.ListN.{getD, length}
+use Rattle.records.specs.Phone.{Phone}
+use Rattle.records.specs.declared.Event.{Event}
+use Rattle.rules.specs.Forms.{forms, no-form, malformed, id-form, action-form}
+use Rattle.rules.specs.Codes.{refusals, code-of}
+use Rattle.rules.specs.Codes.{id-unknown, actor-barred, time-back, card-unknown, card-wrong, card-away, id-taken, key-elsewhere}
+use Rattle.rules.specs.Codes.{install-of-other, mark-of-other, no-such-root, another-valid, no-free-slot, never, not-permitted}
+use Rattle.rules.proofs.Tests.{tests, and-r, not-elim, first-out}
+
+-- no refusal applied
+pub record Unrefused (p : Phone) (e : Event) : Type 0 where
+  pub formed : T (getD forms (e .kind) no-form p e)
+  pub known : T (not (id-unknown p e))
+  pub allowed : T (not (actor-barred p e))
+  pub forward : T (not (time-back p e))
+  pub in-table : T (not (card-unknown p e))
+  pub right-card : T (not (card-wrong p e))
+  pub here : T (not (card-away p e))
+  pub fresh : T (not (id-taken p e))
+  pub own-key : T (not (key-elsewhere p e))
+  pub install-own : T (not (install-of-other p e))
+  pub mark-own : T (not (mark-of-other p e))
+  pub such-root : T (not (no-such-root p e))
+  pub none-valid : T (not (another-valid p e))
+  pub room : T (not (no-free-slot p e))
+  pub table-open : T (not (never p e))
+  pub permitted : T (not (not-permitted p e))
+
+well-formed : (p : Phone) (e : Event) → T (not (malformed p e)) → T (getD forms (e .kind) no-form p e)
+unfolding malformed
+well-formed p e h =
+    and-r (leb (e .actor) 4) (getD forms (e .kind) no-form p e) (not-elim (leb (e .actor) 4 && getD forms (e .kind) no-form p e) h)
+
+pub unrefused : (p : Phone) (e : Event) → T (eqb (code-of p e) 0) → Unrefused p e
+unfolding code-of
+unrefused p e h =
+    let w = first-out (refusals p e) tt h in
+    record {
+      formed = well-formed p e (w .0);
+      known = search w depth 20;
+      allowed = search w depth 20;
+      forward = search w depth 20;
+      in-table = search w depth 20;
+      right-card = search w depth 20;
+      here = search w depth 20;
+      fresh = search w depth 20;
+      own-key = search w depth 20;
+      install-own = search w depth 20;
+      mark-own = search w depth 20;
+      such-root = search w depth 20;
+      none-valid = search w depth 20;
+      room = search w depth 20;
+      table-open = search w depth 20;
+      permitted = search w depth 20;
+    }
+
+-- "Where a kind names an id, 0 is out of range."
+pub id-formed : (p : Phone) (e : Event) → T (id-form p e) → e .id ≢ 0
+unfolding id-form
+id-formed p e h = search tests
+
+pub action-formed : (p : Phone) (e : Event) → T (action-form p e) → (e .id ≢ 0) × (e .second < length (p .table))
+unfolding action-form
+action-formed p e h = (search tests, ltb→lt (e .second) (length (p .table)) (search tests))

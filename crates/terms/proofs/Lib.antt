@@ -1,0 +1,3 @@
+pub mod Finite
+pub mod FormTests
+pub mod Listed

@@ -1,0 +1,21 @@
+use native.Mathlib.Omega.{arith}
+use native.Mathlib.Nat.{one-mul}
+use lib.Pow.{shl-exact}
+use lib.Dec.{lit<}
+use Rattle.rules.specs.ImageRules.{executable-fits}
+use borrow.Author.Needs.{needs}
+use Rattle.terms.proofs.executable_fits.Statement.{statement}
+use Rattle.terms.proofs.executable_fits.Tie as tie
+
+cast-result : tie.Need-cast-result
+cast-result c = search needs
+
+shl-result : tie.Need-shl-result
+shl-result c = search needs
+
+returns : tie.Need-returns
+unfolding executable-fits
+returns c = rw (shl-exact 1 (c .before .before .before .args .actions) 64 (lit< tt) (omega arith), one-mul)
+
+pub executable-fits-spec : {M : Type 1} → statement M
+executable-fits-spec = tie.close (tie.spec cast-result shl-result returns)

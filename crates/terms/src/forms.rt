@@ -1,0 +1,141 @@
+// The form of each kind of event, and what the fields of one say.
+use records::Certificate;
+use records::Event;
+use records::Header;
+ghost use Prim.Native.Nat.{_≤_};
+ghost use lib.Dec.{eqb};
+ghost use lib.ListN.{getD, length};
+ghost use mathlib.Core.Bool.{cond, not};
+ghost use mathlib.Core.Path.{_≡_};
+ghost use Rattle.terms.specs.Seldom.{seldom};
+ghost use Rattle.records.specs.Phone.{Phone};
+ghost use Rattle.rules.specs.Forms.{action-form, card-form, clock-form, eight, executable-form, id-form, listed, message-form, new-certificate, unlisted};
+ghost use Rattle.rules.specs.Words.{all, all-zero};
+
+// How many numbers a message can list.
+const MOST: usize = Event::MOST_LISTED as usize;
+
+// The fields that few kinds use, as a sum: 0 where each is.
+fn seldom(e: Event) -> u64
+    ensures { λ r. ⌜ (r ≡ seldom e) × (r ≤ 16000000000) ⌝ }
+{
+    e.third as u64 + e.fourth as u64 + e.verifying as u64 + e.owner as u64 + e.expiry as u64
+}
+
+pub fn clock_form(e: Event) -> bool
+    ensures { λ r. ⌜ ((p : Phone) → r ≡ clock-form p e) ⌝ }
+{
+    e.id as u64 + e.second as u64 + seldom(e) == 0
+}
+
+pub fn card_form(e: Event) -> bool
+    ensures { λ r. ⌜ ((p : Phone) → r ≡ card-form p e) ⌝ }
+{
+    e.id as u64 + e.key as u64 + seldom(e) == 0
+}
+
+pub fn id_form(e: Event) -> bool
+    ensures { λ r. ⌜ ((p : Phone) → r ≡ id-form p e) ⌝ }
+{
+    (e.id != 0) & (e.second as u64 + e.key as u64 + seldom(e) == 0)
+}
+
+pub fn executable_form(e: Event) -> bool
+    ensures { λ r. ⌜ ((p : Phone) → r ≡ executable-form p e) ⌝ }
+{
+    (e.id != 0) & (e.second as u64 + seldom(e) == 0)
+}
+
+pub fn action_form(actions: usize, e: Event) -> bool
+    ensures { λ r. ⌜ ((p : Phone) → actions ≡ length (p .table) → r ≡ action-form p e) ⌝ }
+{
+    (e.id != 0) & ((e.second as usize) < actions) & (e.key as u64 + seldom(e) == 0)
+}
+
+// One of the eight numbers that a configuration message may list.
+pub fn listed_id(e: Event, i: usize) -> u16
+    ensures { λ r. ⌜ r ≡ getD (eight e) i 0 ⌝ }
+{
+    match i {
+        0 => (e.key / 65536) as u16,
+        1 => (e.key % 65536) as u16,
+        2 => (e.verifying / 65536) as u16,
+        3 => (e.verifying % 65536) as u16,
+        4 => (e.owner / 65536) as u16,
+        5 => (e.owner % 65536) as u16,
+        6 => (e.expiry / 65536) as u16,
+        7 => (e.expiry % 65536) as u16,
+        _ => 0,
+    }
+}
+
+fn listed_not_zero(e: Event) -> bool
+    requires { ⌜ e .fourth ≤ 8 ⌝ }
+    ensures { λ r. ⌜ r ≡ all (λ n. not (eqb n 0)) (listed e) ⌝ }
+{
+    let n = e.fourth as usize;
+    let mut i: usize = 0;
+    while i < n {
+        if listed_id(e, i) == 0 {
+            return false;
+        }
+        i += 1;
+    }
+    true
+}
+
+fn unlisted_zero(e: Event) -> bool
+    requires { ⌜ e .fourth ≤ 8 ⌝ }
+    ensures { λ r. ⌜ r ≡ all-zero (unlisted e) ⌝ }
+{
+    let mut i: usize = e.fourth as usize;
+    while i < MOST {
+        if listed_id(e, i) != 0 {
+            return false;
+        }
+        i += 1;
+    }
+    true
+}
+
+pub fn message_form(e: Event) -> bool
+    ensures { λ r. ⌜ ((p : Phone) → r ≡ message-form p e) ⌝ }
+{
+    if Event::MOST_LISTED < e.fourth {
+        return false;
+    }
+    (e.third <= Event::ENABLE_LISTED)
+        & ((e.fourth == 0) | (e.third == Event::ENABLE_LISTED))
+        & (e.id as u64 + e.second as u64 == 0)
+        & listed_not_zero(e)
+        & unlisted_zero(e)
+}
+
+// The certificate that an install event stores under a standing mode.
+pub fn new_certificate(mode: u16, e: Event) -> Certificate
+    ensures { λ r. ⌜ r ≡ new-certificate mode e ⌝ }
+{
+    let root = e.third == Certificate::ROOT;
+    let third_party = e.fourth == records::THIRD_PARTY;
+    Certificate {
+        id: e.id,
+        place: e.second,
+        kind: e.third,
+        domain: e.fourth,
+        mark: bit(!(root & !third_party)),
+        enabled: bit(!(root & third_party & (mode != Header::ENABLE_ALL))),
+        key: e.key,
+        verifying: e.verifying,
+        owner: e.owner,
+        expiry: e.expiry,
+    }
+}
+
+fn bit(b: bool) -> u8
+    ensures { λ r. ⌜ r ≡ cond b 1 0 ⌝ }
+{
+    if b {
+        return 1;
+    }
+    0
+}
