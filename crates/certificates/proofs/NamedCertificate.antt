@@ -16,7 +16,7 @@ use Rattle.rules.specs.Codes.{has-id, certificate-known, certificate-named, cod
 use Rattle.handling.specs.declared.Plan.{Plan}
 use Rattle.handling.specs.Plans.{plan, on-certificate, certificate-rows}
 use Rattle.handling.proofs.Decided.{formed, refused-first, refused-next, on-next}
-use Rattle.handling.proofs.FirstWithin.{first-within}
+use Rattle.lookup.proofs.FirstWithin.{first-within}
 use Rattle.handling.proofs.Handles.{named-id}
 use Rattle.handling.proofs.Named.{certificate-here}
 use Rattle.handling.proofs.PlanLaws.{on-code, on-slot, certificate-within}

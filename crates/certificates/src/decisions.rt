@@ -1,6 +1,7 @@
 // What is decided of an event about certificates, on an image that nothing is written to.
 use handling::Plan;
 use lookup::CertificateRoom;
+use lookup::Found;
 use records::Certificate;
 use records::Event;
 use records::image;
@@ -74,18 +75,19 @@ fn on_certificate(s: &[u8], e: Event, kind: u8) -> Plan
     requires { ⌜ (kind < 16) × (e .actor < 5) ⌝ }
     ensures { λ r. ⌜ r ≡ certificate-plan kind (decode (now (s .entry))) e ⌝ }
 {
-    let slot = lookup::certificate_slot(s, e.id);
-    if image::certificate_slots(s) <= slot {
-        return Plan::Refused(3);
+    match lookup::certificate_slot(s, e.id) {
+        Found::Nowhere => Plan::Refused(3),
+        Found::At(slot) => {
+            let c = image::certificate(s, slot);
+            if !actors::may_act(kind, c.domain, e.actor) {
+                return Plan::Refused(4);
+            }
+            if !terms::is_present(s, c) {
+                return Plan::Refused(8);
+            }
+            Plan::On(slot)
+        }
     }
-    let c = image::certificate(s, slot);
-    if !actors::may_act(kind, c.domain, e.actor) {
-        return Plan::Refused(4);
-    }
-    if !terms::is_present(s, c) {
-        return Plan::Refused(8);
-    }
-    Plan::On(slot)
 }
 
 // 6 delete certificate
@@ -212,20 +214,22 @@ fn judge_listed(s: &[u8], e: Event) -> u8
     ensures { λ r. ⌜ r ≡ listed-code (decode (now (s .entry))) e ⌝ }
 {
     let n = e.fourth as usize;
-    let slots = image::certificate_slots(s);
     let mut told: u8 = 0;
     let mut i: usize = 0;
     while i < n {
-        let slot = lookup::certificate_slot(s, forms::listed_id(e, i));
+        let found = lookup::certificate_slot(s, forms::listed_id(e, i));
         i += 1;
-        if slots <= slot {
-            return 3;
+        match found {
+            Found::Nowhere => {
+                return 3;
+            }
+            Found::At(slot) => {
+                if terms::is_third_party_root(image::certificate(s, slot)) {
+                    continue;
+                }
+                told = 12;
+            }
         }
-        let c = image::certificate(s, slot);
-        if terms::is_third_party_root(c) {
-            continue;
-        }
-        told = 12;
     }
     told
 }

@@ -16,7 +16,7 @@ use Rattle.rules.specs.Codes.{is-executable, executable-known, code-of}
 use Rattle.handling.specs.declared.Plan.{Plan}
 use Rattle.handling.specs.Plans.{plan, on-executable, for-executable, executable-rows}
 use Rattle.executables.specs.Acting.{acting}
-use Rattle.handling.proofs.FirstWithin.{first-within}
+use Rattle.lookup.proofs.FirstWithin.{first-within}
 use Rattle.handling.proofs.PlanLaws.{on-code, on-slot}
 use Rattle.handling.proofs.PlanLaws.{executable-within, free-executable-within}
 

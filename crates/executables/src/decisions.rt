@@ -1,5 +1,6 @@
 // What is decided of an event about executables, on an image that nothing is written to.
 use handling::Plan;
+use lookup::Found;
 use lookup::Room;
 use records::Event;
 use records::Executable;
@@ -43,14 +44,15 @@ fn on_executable(s: &[u8], e: Event, kind: u8) -> Plan
     requires { ⌜ (kind < 16) × (e .actor < 5) ⌝ }
     ensures { λ r. ⌜ r ≡ acting kind (decode (now (s .entry))) e ⌝ }
 {
-    let slot = lookup::executable_slot(s, e.id);
-    if image::executable_slots(s) <= slot {
-        return Plan::Refused(3);
+    match lookup::executable_slot(s, e.id) {
+        Found::Nowhere => Plan::Refused(3),
+        Found::At(slot) => {
+            if !actors::may_act(kind, 0, e.actor) {
+                return Plan::Refused(4);
+            }
+            Plan::On(slot)
+        }
     }
-    if !actors::may_act(kind, 0, e.actor) {
-        return Plan::Refused(4);
-    }
-    Plan::On(slot)
 }
 
 // 11 delete executable

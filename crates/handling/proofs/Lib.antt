@@ -1,6 +1,5 @@
 pub mod CodeRows
 pub mod Decided
-pub mod FirstWithin
 pub mod Handles
 pub mod Named
 pub mod PlanLaws

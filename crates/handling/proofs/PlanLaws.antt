@@ -16,9 +16,9 @@ use Rattle.rules.specs.Codes.{has-id, is-executable, certificate-known, executa
 use Rattle.rules.proofs.Accepts.{T-true}
 use Rattle.rules.proofs.Tests.{and-l, and-r, eq→eqb, nor-l, coded}
 use Rattle.keeping.proofs.Unrefused.{unrefused}
+use Rattle.lookup.proofs.FirstWithin.{first-within}
 use Rattle.handling.specs.declared.Plan.{Plan}
 use Rattle.handling.specs.Plans.{plan}
-use Rattle.handling.proofs.FirstWithin.{first-within}
 
 module _ (code slot : ℕ) where
   -- a code that is not 0

@@ -1,1 +1,3 @@
+pub mod FirstWithin
+pub mod FoundSlot
 pub mod SweptRoom

@@ -1,1 +1,2 @@
+pub mod RecordFound
 pub mod RoomForOne

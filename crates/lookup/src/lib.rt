@@ -7,66 +7,72 @@ ghost use lib.ListN.{length};
 ghost use mathlib.Core.Bool.{_&&_};
 ghost use mathlib.Core.Path.{_≡_};
 ghost use Rattle.lookup.specs.RoomForOne.{Passed, certificate-room, executable-room, in-another};
-ghost use Rattle.rules.specs.Words.{first-place};
+ghost use Rattle.lookup.specs.RecordFound.{found};
 ghost use Rattle.records.specs.Frame.{Framed};
 ghost use Rattle.records.specs.Phone.{decode};
 ghost use Rattle.rules.specs.Codes.{has-id, is-executable};
 ghost use Rattle.rules.specs.ImageRules.{has-valid-operator, in-card-table, known-place, operator-of, valid-in};
 
-// The slot of the certificate with this id, or the number of slots where there is none. Id 0 finds the lowest free slot.
-pub fn certificate_slot(s: &[u8], id: u16) -> usize
+// A record looked for: the slot where it stands, or nowhere.
+pub enum Found {
+    At(usize),
+    Nowhere,
+}
+
+// Where the certificate with this id stands. Id 0 finds the lowest free slot.
+pub fn certificate_slot(s: &[u8], id: u16) -> Found
     requires { ⌜ Framed (now s) ⌝ }
-    ensures { λ r. ⌜ r ≡ first-place (has-id id) (decode (now (s .entry)) .trust .certificates) ⌝ }
+    ensures { λ r. ⌜ r ≡ found (has-id id) (decode (now (s .entry)) .trust .certificates) ⌝ }
 {
     let slots = image::certificate_slots(s);
     let mut i: usize = 0;
     while i < slots {
         if image::certificate_has_id(s, i, id) {
-            return i;
+            return Found::At(i);
         }
         i += 1;
     }
-    slots
+    Found::Nowhere
 }
 
 // The same of an executable, where no slot before `from` has the id.
-fn executable_from(s: &[u8], id: u16, from: usize) -> usize
+fn executable_from(s: &[u8], id: u16, from: usize) -> Found
     requires { ⌜ Framed (now s) ⌝ }
     requires { ⌜ from ≤ length (decode (now s) .executables) ⌝ }
     requires { ⌜ Passed (is-executable id) (decode (now s) .executables) from ⌝ }
-    ensures { λ r. ⌜ r ≡ first-place (is-executable id) (decode (now (s .entry)) .executables) ⌝ }
+    ensures { λ r. ⌜ r ≡ found (is-executable id) (decode (now (s .entry)) .executables) ⌝ }
 {
     let slots = image::executable_slots(s);
     let mut i = from;
     while i < slots {
         if image::executable_has_id(s, i, id) {
-            return i;
+            return Found::At(i);
         }
         i += 1;
     }
-    slots
+    Found::Nowhere
 }
 
-// The slot of the executable with this id, or the number of slots where there is none. Id 0 finds the lowest free slot. Most events name
-// an executable, so it is looked for four slots a turn: whether there is a next turn costs as much to ask as two slots.
-pub fn executable_slot(s: &[u8], id: u16) -> usize
+// Where the executable with this id stands. Id 0 finds the lowest free slot. Most events name an executable, so it is looked for four
+// slots a turn: whether there is a next turn costs as much to ask as two slots.
+pub fn executable_slot(s: &[u8], id: u16) -> Found
     requires { ⌜ Framed (now s) ⌝ }
-    ensures { λ r. ⌜ r ≡ first-place (is-executable id) (decode (now (s .entry)) .executables) ⌝ }
+    ensures { λ r. ⌜ r ≡ found (is-executable id) (decode (now (s .entry)) .executables) ⌝ }
 {
     let slots = image::executable_slots(s);
     let mut i: usize = 0;
     while i + 3 < slots {
         if image::executable_has_id(s, i, id) {
-            return i;
+            return Found::At(i);
         }
         if image::executable_has_id(s, i + 1, id) {
-            return i + 1;
+            return Found::At(i + 1);
         }
         if image::executable_has_id(s, i + 2, id) {
-            return i + 2;
+            return Found::At(i + 2);
         }
         if image::executable_has_id(s, i + 3, id) {
-            return i + 3;
+            return Found::At(i + 3);
         }
         i += 4;
     }
@@ -137,10 +143,14 @@ pub fn certificate_room(s: &[u8], id: u16, key: u32, domain: u8) -> CertificateR
         }
         if in_another(c, key, domain) {
             // An id that is taken is told first, and the slots below have not been asked.
-            if certificate_slot(s, id) < slots {
-                return CertificateRoom::Taken;
+            match certificate_slot(s, id) {
+                Found::At(_) => {
+                    return CertificateRoom::Taken;
+                }
+                Found::Nowhere => {
+                    return CertificateRoom::Elsewhere;
+                }
             }
-            return CertificateRoom::Elsewhere;
         }
         if c.id != 0 {
             continue;

@@ -1,9 +1,9 @@
 -- What is told of an executable, case by case, and what a refusal is told. Assumes nothing.
-use Prim.Native.Nat.{ℕ, _+_, _*_, _≤_, _<_}
+use Prim.Native.Nat.{ℕ, _+_, _*_, _≤_}
 use mathlib.Core.Bool.{Bool, true, false, cond, not, _||_}
 use mathlib.Core.List.{List, [], _∷_, _++_, append-nil}
 use mathlib.Core.Logic.{_≢_}
-use mathlib.Core.Path.{_≡_, sym, ap, subst, _∙_}
+use mathlib.Core.Path.{_≡_, refl, sym, ap, subst, _∙_}
 use native.Mathlib.Omega.{arith}
 use borrow.Author.Tests.{eq-eqb, ne-eqb, not-false}
 use lib.Dec.{eqb, eqb→eq}
@@ -13,7 +13,7 @@ use Rattle.octets.proofs.ByteLaws.{put-none}
 use Rattle.records.specs.Phone.{Trust, decode, no-executable}
 use Rattle.records.specs.declared.Executable.{Executable}
 use Rattle.rules.specs.declared.Chained.{Chained}
-use Rattle.rules.specs.Words.{any, first-place}
+use Rattle.rules.specs.Words.{any}
 use Rattle.rules.specs.Chains.{chain-domain, links, chain-of, most-links}
 use Rattle.rules.specs.declared.Answer.{Answer}
 use Rattle.rules.specs.declared.Fault.{Fault}
@@ -25,8 +25,11 @@ use Rattle.rules.specs.Codes.{is-executable, executable-named, executable-known
 use Rattle.rules.proofs.Tests.{eq→eqb, ne→neqb, not-intro}
 use Rattle.rules.proofs.Accepts.{true-T}
 use Rattle.rules.proofs.Shortest.{links-small}
-use Rattle.rules.proofs.Places.{place-none, place-some, place-named}
+use Rattle.rules.proofs.Places.{place-named}
 use Rattle.rules.specs.AcceptedImage.{Accepted-image}
+use Rattle.lookup.specs.declared.Found.{Found}
+use Rattle.lookup.specs.RecordFound.{found}
+use Rattle.lookup.proofs.FoundSlot.{nowhere-none, at-some, at-first}
 use Rattle.explanations.specs.Why.{Line, has-key, chain-told, unsigned-line, unheld-line, untrusted-line}
 use Rattle.explanations.specs.Why.{chained, unsigned, held, despite, explained, explanation}
 use Rattle.explanations.proofs.Cases.{explained-chain, explained-unsigned, explained-unheld, explained-reasons}
@@ -102,24 +105,25 @@ module _ (l : List ℕ) (n : ℕ) where
     unfolding why-code
     no-id z = skips _ _ _ opened (takes _ _ _ (ap (λ b. b || not (executable-known (decode l) n)) (eq-eqb n 0 z)))
 
-    module _ {i m : ℕ} (first : i ≡ first-place (is-executable n) (decode l .executables)) (slots : m ≡ length (decode l .executables)) (nz : n ≢ 0) where
+    module _ {f : Found} (q : f ≡ found (is-executable n) (decode l .executables)) (nz : n ≢ 0) where
       known-is : {b : Bool} → any (is-executable n) (decode l .executables) ≡ b → (eqb n 0 || not (executable-known (decode l) n)) ≡ not b
       unfolding executable-known
       known-is e = ap (λ b. b || not (executable-known (decode l) n)) (ne-eqb n 0 nz) ∙ ap not e
 
-      unknown : m ≤ i → 3 ≡ why-code l n
+      unknown : f ≡ Found.Nowhere → 3 ≡ why-code l n
       unfolding why-code
-      unknown q = skips _ _ _ opened (takes _ _ _ (known-is (place-none (is-executable n) (decode l .executables) first slots q)))
+      unknown h = skips _ _ _ opened (takes _ _ _ (known-is (nowhere-none (is-executable n) (decode l .executables) q h)))
 
-      known : i < m → 0 ≡ why-code l n
+      known : {i : ℕ} → f ≡ Found.At i → 0 ≡ why-code l n
       unfolding why-code
-      known q = skips _ _ _ opened (skips _ _ _ (known-is (place-some (is-executable n) (decode l .executables) first slots q)) ends)
+      known h = skips _ _ _ opened (skips _ _ _ (known-is (at-some (is-executable n) (decode l .executables) q h)) ends)
 
-      named : {x : Executable} → x ≡ getD (decode l .executables) i no-executable
+      named : {i : ℕ} → f ≡ Found.At i → {x : Executable} → x ≡ getD (decode l .executables) i no-executable
           → {out out′ : List ℕ} {k : ℕ} → Told (explained (decode l .trust) x) out k out′ → Told (explanation (decode l) n) out k out′
       unfolding explanation executable-named
-      named e {out} {out′} {k} w =
-          subst (λ x. Told (explained (decode l .trust) x) out k out′) (place-named (is-executable n) (decode l .executables) first slots no-executable e) w
+      named h e {out} {out′} {k} w =
+          let first = at-first (is-executable n) (decode l .executables) q h in
+          subst (λ x. Told (explained (decode l .trust) x) out k out′) (place-named (is-executable n) (decode l .executables) first refl no-executable e) w
 
 -- ---- the answer, where there is room for every line
 
@@ -149,14 +153,14 @@ module _ (l : List ℕ) (n : ℕ) (out : List ℕ) where
     pub told-no-id : n ≡ 0 → {r : Why} → r ≡ record { code = 3; rule = 0; offset = 0; lines = 0 } → Whole l n out r out
     told-no-id z = refused-unknown (no-id l n (ok .accepted) z)
 
-    module _ {i m : ℕ} (first : i ≡ first-place (is-executable n) (decode l .executables)) (slots : m ≡ length (decode l .executables)) (nz : n ≢ 0) where
-      pub told-unknown : m ≤ i → {r : Why} → r ≡ record { code = 3; rule = 0; offset = 0; lines = 0 } → Whole l n out r out
-      told-unknown q = refused-unknown (unknown l n (ok .accepted) first slots nz q)
+    module _ {f : Found} (q : f ≡ found (is-executable n) (decode l .executables)) (nz : n ≢ 0) where
+      pub told-unknown : f ≡ Found.Nowhere → {r : Why} → r ≡ record { code = 3; rule = 0; offset = 0; lines = 0 } → Whole l n out r out
+      told-unknown h = refused-unknown (unknown l n (ok .accepted) q nz h)
 
-      pub told-known : i < m → {x : Executable} → x ≡ getD (decode l .executables) i no-executable
+      pub told-known : {i : ℕ} → f ≡ Found.At i → {x : Executable} → x ≡ getD (decode l .executables) i no-executable
           → {k : ℕ} {out′ : List ℕ} → Told (explained (decode l .trust) x) out k out′
           → {r : Why} → r ≡ record { code = 0; rule = 0; offset = 0; lines = k } → Whole l n out r out′
       unfolding refusal
-      told-known h e w q =
-          let t = named l n (ok .accepted) first slots nz e w in
-          answered 0 (known l n (ok .accepted) first slots nz h) (q ∙ ap (λ k. record { code = 0; rule = 0; offset = 0; lines = k }) (t .count)) (t .lines)
+      told-known h e w a =
+          let t = named l n (ok .accepted) q nz h e w in
+          answered 0 (known l n (ok .accepted) q nz h) (a ∙ ap (λ k. record { code = 0; rule = 0; offset = 0; lines = k }) (t .count)) (t .lines)

@@ -1,6 +1,7 @@
 // Why an executable has its domain or has none, in lines of three bytes: what is said, and the id of a record.
 mod slots;
 
+use lookup::Found;
 use records::Certificate;
 use records::Executable;
 use records::image;
@@ -246,16 +247,17 @@ fn explain_accepted(s: &[u8], id: u16, lines: &mut [u8]) -> Why
     if id == 0 {
         return unknown();
     }
-    let slot = lookup::executable_slot(s, id);
-    if image::executable_slots(s) <= slot {
-        return unknown();
-    }
-    let n = explain_on(s, image::executable(s, slot), lines);
-    Why {
-        code: 0,
-        rule: 0,
-        offset: 0,
-        lines: n,
+    match lookup::executable_slot(s, id) {
+        Found::Nowhere => unknown(),
+        Found::At(slot) => {
+            let n = explain_on(s, image::executable(s, slot), lines);
+            Why {
+                code: 0,
+                rule: 0,
+                offset: 0,
+                lines: n,
+            }
+        }
     }
 }
 

@@ -7,7 +7,8 @@ use mathlib.Core.Path.{_≡_, sym, _∙_}
 use Rattle.records.specs.Phone.{decode, no-certificate}
 use Rattle.rules.specs.Codes.{has-id}
 use Rattle.lookup.specs.RoomForOne.{Passed}
-use Rattle.rules.proofs.Places.{place-here, place-next, place-end}
+use Rattle.rules.proofs.Places.{place-next}
+use Rattle.lookup.proofs.FoundSlot.{found-here, found-nowhere}
 use Rattle.lookup.proofs.certificate_slot.Statement.{statement}
 use Rattle.lookup.proofs.certificate_slot.Tie as tie
 
@@ -29,7 +30,7 @@ certificate-has-id-requires c κs = search needs
 returns : tie.Need-returns Inv-loop μ-loop
 returns c =
     let v = c .before .before .before .loop in
-    place-here _ no-certificate _ (v .i) (v .inv .2) (omega arith) (sym (c .before .certificate-has-id .ensures) ∙ c .if1 .taken)
+    found-here _ _ no-certificate (v .i) (v .inv .2) (omega arith) (sym (c .before .certificate-has-id .ensures) ∙ c .if1 .taken)
 
 add-i : tie.Need-add-i Inv-loop μ-loop
 add-i c = search needs
@@ -43,7 +44,7 @@ loop-again c =
     (search needs, search needs, place-next _ no-certificate _ (v .i) (v .inv .2) (omega arith) (sym (c .before .certificate-has-id .ensures) ∙ c .if1 .left))
 
 returns-2 : tie.Need-returns-2 Inv-loop μ-loop
-returns-2 c = (omega (arith, place-end _ no-certificate _ (c .before .loop .i) (c .before .loop .inv .2) (omega arith)))
+returns-2 c = found-nowhere _ _ no-certificate (c .before .loop .i) (c .before .loop .inv .2) (omega arith)
 
 pub certificate-slot-spec : {M : Type 1} → statement M
 certificate-slot-spec =

@@ -6,7 +6,8 @@ use mathlib.Core.Path.{_≡_, sym, _∙_}
 use Rattle.records.specs.Phone.{decode, no-executable}
 use Rattle.rules.specs.Codes.{is-executable}
 use Rattle.lookup.specs.RoomForOne.{Passed}
-use Rattle.rules.proofs.Places.{place-here, place-next, place-end}
+use Rattle.rules.proofs.Places.{place-next}
+use Rattle.lookup.proofs.FoundSlot.{found-here, found-nowhere}
 use Rattle.lookup.proofs.executable_from.Statement.{statement}
 use Rattle.lookup.proofs.executable_from.Tie as tie
 
@@ -28,7 +29,7 @@ executable-has-id-requires c κs = search needs
 returns : tie.Need-returns Inv-loop μ-loop
 returns c =
     let v = c .before .before .before .loop in
-    place-here _ no-executable _ (v .i) (v .inv .2) (omega arith) (sym (c .before .executable-has-id .ensures) ∙ c .if1 .taken)
+    found-here _ _ no-executable (v .i) (v .inv .2) (omega arith) (sym (c .before .executable-has-id .ensures) ∙ c .if1 .taken)
 
 add-i : tie.Need-add-i Inv-loop μ-loop
 add-i c = search needs
@@ -42,7 +43,7 @@ loop-again c =
     (search needs, search needs, place-next _ no-executable _ (v .i) (v .inv .2) (omega arith) (sym (c .before .executable-has-id .ensures) ∙ c .if1 .left))
 
 returns-2 : tie.Need-returns-2 Inv-loop μ-loop
-returns-2 c = (omega (arith, place-end _ no-executable _ (c .before .loop .i) (c .before .loop .inv .2) (omega arith)))
+returns-2 c = found-nowhere _ _ no-executable (c .before .loop .i) (c .before .loop .inv .2) (omega arith)
 
 pub executable-from-spec : {M : Type 1} → statement M
 executable-from-spec =

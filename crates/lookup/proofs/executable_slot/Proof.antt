@@ -7,7 +7,8 @@ use mathlib.Core.Path.{_≡_, sym, _∙_}
 use Rattle.records.specs.Phone.{decode, no-executable}
 use Rattle.rules.specs.Codes.{is-executable}
 use Rattle.lookup.specs.RoomForOne.{Passed}
-use Rattle.rules.proofs.Places.{place-here, place-next, place-past}
+use Rattle.rules.proofs.Places.{place-next, place-past}
+use Rattle.lookup.proofs.FoundSlot.{found-here}
 use Rattle.lookup.proofs.executable_slot.Statement.{statement}
 use Rattle.lookup.proofs.executable_slot.Tie as tie
 
@@ -32,7 +33,7 @@ executable-has-id-requires c κs = (search needs, omega arith)
 returns : tie.Need-returns Inv-loop μ-loop
 returns c =
     let v = c .before .before .before .loop in
-    place-here _ no-executable _ (v .i) (v .inv .2) (omega arith) (sym (c .before .executable-has-id .ensures) ∙ c .if1 .taken)
+    found-here _ _ no-executable (v .i) (v .inv .2) (omega arith) (sym (c .before .executable-has-id .ensures) ∙ c .if1 .taken)
 
 -- where a turn began, and that so many slots from there on do not have the id
 abbrev turn-1 : tie.Else1 Inv-loop μ-loop → tie.At-loop Inv-loop μ-loop
@@ -77,13 +78,13 @@ add-executable-has-id c = search needs
 executable-has-id-requires-2 : tie.Need-executable-has-id-requires-2 Inv-loop μ-loop
 executable-has-id-requires-2 c κs = (search needs, omega arith)
 
-add-result : tie.Need-add-result Inv-loop μ-loop
-add-result c = search needs
+add-t9 : tie.Need-add-t9 Inv-loop μ-loop
+add-t9 c = search needs
 
 returns-2 : tie.Need-returns-2 Inv-loop μ-loop
 returns-2 c =
     let i = c .before .before .before .before .before .loop .i in
-    place-here _ no-executable _ (i + 1) (one (c .before .before)) (omega arith) (sym (c .before .executable-has-id2 .ensures) ∙ c .if2 .taken)
+    found-here _ _ no-executable (i + 1) (one (c .before .before)) (omega arith) (sym (c .before .executable-has-id2 .ensures) ∙ c .if2 .taken)
 
 add-executable-has-id-2 : tie.Need-add-executable-has-id-2 Inv-loop μ-loop
 add-executable-has-id-2 c = search needs
@@ -91,13 +92,13 @@ add-executable-has-id-2 c = search needs
 executable-has-id-requires-3 : tie.Need-executable-has-id-requires-3 Inv-loop μ-loop
 executable-has-id-requires-3 c κs = (search needs, omega arith)
 
-add-result-2 : tie.Need-add-result-2 Inv-loop μ-loop
-add-result-2 c = search needs
+add-t11 : tie.Need-add-t11 Inv-loop μ-loop
+add-t11 c = search needs
 
 returns-3 : tie.Need-returns-3 Inv-loop μ-loop
 returns-3 c =
     let i = turn-2 (c .before .before) .loop .i in
-    place-here _ no-executable _ (i + 2) (two (c .before .before)) (omega arith) (sym (c .before .executable-has-id3 .ensures) ∙ c .if3 .taken)
+    found-here _ _ no-executable (i + 2) (two (c .before .before)) (omega arith) (sym (c .before .executable-has-id3 .ensures) ∙ c .if3 .taken)
 
 add-executable-has-id-3 : tie.Need-add-executable-has-id-3 Inv-loop μ-loop
 add-executable-has-id-3 c = search needs
@@ -105,13 +106,13 @@ add-executable-has-id-3 c = search needs
 executable-has-id-requires-4 : tie.Need-executable-has-id-requires-4 Inv-loop μ-loop
 executable-has-id-requires-4 c κs = (search needs, omega arith)
 
-add-result-3 : tie.Need-add-result-3 Inv-loop μ-loop
-add-result-3 c = search needs
+add-t13 : tie.Need-add-t13 Inv-loop μ-loop
+add-t13 c = search needs
 
 returns-4 : tie.Need-returns-4 Inv-loop μ-loop
 returns-4 c =
     let i = turn-3 (c .before .before) .loop .i in
-    place-here _ no-executable _ (i + 3) (three (c .before .before)) (omega arith) (sym (c .before .executable-has-id4 .ensures) ∙ c .if4 .taken)
+    found-here _ _ no-executable (i + 3) (three (c .before .before)) (omega arith) (sym (c .before .executable-has-id4 .ensures) ∙ c .if4 .taken)
 
 add-i : tie.Need-add-i Inv-loop μ-loop
 add-i c = search needs
@@ -141,15 +142,15 @@ executable-slot-spec =
     returns
     add-executable-has-id
     executable-has-id-requires-2
-    add-result
+    add-t9
     returns-2
     add-executable-has-id-2
     executable-has-id-requires-3
-    add-result-2
+    add-t11
     returns-3
     add-executable-has-id-3
     executable-has-id-requires-4
-    add-result-3
+    add-t13
     returns-4
     add-i
     loop-less

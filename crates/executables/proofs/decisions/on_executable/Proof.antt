@@ -1,8 +1,8 @@
-use mathlib.Core.Bool.{true, false, not}
-use mathlib.Core.Path.{_≡_, ap}
+use mathlib.Core.Bool.{not}
+use mathlib.Core.Path.{ap}
 use native.Mathlib.Omega.{arith}
-use Rattle.records.specs.Phone.{decode}
-use Rattle.rules.specs.Codes.{executable-known}
+use Rattle.rules.specs.Codes.{is-executable}
+use Rattle.lookup.proofs.FoundSlot.{at-first}
 use Rattle.handling.proofs.CodeRows.{none, here, next, gives, says}
 use Rattle.handling.proofs.PlanLaws.{plan-refused, plan-on}
 use Rattle.handling.proofs.Named.{executable-missing, executable-found}
@@ -10,40 +10,45 @@ use borrow.Author.Needs.{needs}
 use Rattle.executables.proofs.decisions.on_executable.Statement.{statement}
 use Rattle.executables.proofs.decisions.on_executable.Tie as tie
 
-abbrev start : tie.After-executable-slots → tie.Start
-start c = c .before .before .before
-
-missing : (c : tie.Then1) → let a = start (c .before) .args in not (executable-known (decode (a .s .now)) (a .e .id)) ≡ true
-missing c = ap not (executable-missing _ _ (c .before .before .executable-slot .ensures) (c .before .executable-slots .ensures .0) (c .if1 .taken))
-
-found : (c : tie.Else1) → let a = start (c .before) .args in not (executable-known (decode (a .s .now)) (a .e .id)) ≡ false
-found c = ap not (executable-found _ _ (c .before .before .executable-slot .ensures) (c .before .executable-slots .ensures .0) (c .if1 .left))
-
 executable-slot-requires : tie.Need-executable-slot-requires
 executable-slot-requires c κs = search needs
 
-executable-slots-requires : tie.Need-executable-slots-requires
-executable-slots-requires c κs = search needs
+enum-told : tie.Need-enum-told
+enum-told c = search needs
 
-returns : tie.Need-returns
-returns c = plan-refused _ _ (omega arith) (search (gives, here, missing))
+enum-known-slot : tie.Need-enum-known-slot
+enum-known-slot c = search needs
 
 may-act-requires : tie.Need-may-act-requires
 may-act-requires c κs = search needs
 
+returns : tie.Need-returns
+returns c =
+    let k = c .before .before .before in
+    let found = ap not (executable-found _ _ (k .before .before .executable-slot .ensures) (k .slot .given .1)) in
+    plan-refused _ _ (omega arith) (gives (next found (here (says (c .before .may-act .ensures) (c .if1 .taken)))))
+
 returns-2 : tie.Need-returns-2
-returns-2 c = plan-refused _ _ (omega arith) (search (gives, here, next, says, found))
+returns-2 c =
+    let missing = executable-missing _ _ (c .before .before .executable-slot .ensures) (c .enum-told .given .1) in
+    plan-refused _ _ (omega arith) (gives (here (ap not missing)))
 
 returns-3 : tie.Need-returns-3
-returns-3 c = plan-on _ _ (search needs) (search (gives, next, none, says, found))
+returns-3 c =
+    let k = c .before .before .before in
+    let at = k .slot .given .1 in
+    let found = ap not (executable-found _ _ (k .before .before .executable-slot .ensures) at) in
+    plan-on _ _ (at-first (is-executable _) _ (k .before .before .executable-slot .ensures) at)
+    (gives (next found (next (says (c .before .may-act .ensures) (c .if1 .left)) none)))
 
 pub on-executable-spec : {M : Type 1} → statement M
 on-executable-spec =
     tie.close
     (tie.spec
     executable-slot-requires
-    executable-slots-requires
-    returns
+    enum-told
+    enum-known-slot
     may-act-requires
+    returns
     returns-2
     returns-3)
