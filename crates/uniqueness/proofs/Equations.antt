@@ -426,3 +426,8 @@ one-monitor-open κs a r r′ e e′ = returned
 
 pub one-stream-put-text : One-outcome Rattle.stream.proofs.put_text.Reads.Learnt (λ e. e .0 .now ∷ [])
 one-stream-put-text κs a r r′ e e′ = written
+
+-- ==== differences
+
+pub one-differences-tell-case : One-result Rattle.differences.proofs.tell_case.Reads.Learnt
+one-differences-tell-case κs a r r′ e e′ = returned

@@ -1,8 +1,9 @@
 -- Any two outcomes that a contract admits are equal: here for the contracts that are more than one equation (a record, a product or an
 -- implication), by crates in the order of the house. Equations.antt has the others. Assumes nothing.
 use Prim.Native.Nat.{ℕ}
+use mathlib.Core.Bool.{Bool, true, false}
 use mathlib.Core.List.{List, [], _∷_}
-use mathlib.Core.Path.{_≡_, sym, ap, _∙_, subst}
+use mathlib.Core.Path.{_≡_, refl, sym, ap, _∙_, subst}
 use Rattle.records.specs.Phone.{Phone, tabulate, decode, no-row}
 use Rattle.records.specs.declared.Event.{Event}
 use Rattle.records.proofs.Joined.{length-tabulate}
@@ -10,6 +11,7 @@ use Rattle.rules.specs.declared.Answer.{Answer}
 use Rattle.events.specs.Stepped.{Stepped}
 use Rattle.handling.specs.Handled.{Handled, Settled}
 use Rattle.monitor.specs.Told.{Followed}
+use Rattle.differences.specs.Compared.{Differ}
 use Rattle.uniqueness.specs.Outcomes.{One-result, One-outcome}
 use Rattle.uniqueness.proofs.Equations.{returned}
 
@@ -185,3 +187,14 @@ one-stream-put-heading κs a r r′ e e′ x y = (returned (x .1) (y .1), buffer
 
 pub one-stream-put-line : One-outcome Rattle.stream.proofs.put_line.Reads.Learnt (λ e. e .0 .now ∷ [])
 one-stream-put-line κs a r r′ e e′ x y = (returned (x .1) (y .1), buffer (x .0) (y .0))
+
+-- ==== differences: whether two images differ
+
+one-differ : {a b : List ℕ} (r r′ : Bool) → Differ a b r → Differ a b r′ → r ≡ r′
+one-differ true true x y = refl
+one-differ false false x y = refl
+one-differ true false x y = absurd (x .other refl (y .same refl))
+one-differ false true x y = absurd (y .other refl (x .same refl))
+
+pub one-differences-image-differs : One-result Rattle.differences.proofs.image_differs.Reads.Learnt
+one-differences-image-differs κs a r r′ e e′ = one-differ r r′

@@ -1,8 +1,8 @@
 use Rattle.stream.proofs.JoinedTexts.{line-ends, refusal-ends}
 use native.Mathlib.Omega.{arith}
 use borrow.Author.Needs.{needs}
-use Rattle.vectors.proofs.put_told.Statement.{statement}
-use Rattle.vectors.proofs.put_told.Tie as tie
+use Rattle.differences.proofs.put_told.Statement.{statement}
+use Rattle.differences.proofs.put_told.Tie as tie
 
 answer-of-requires : tie.Need-answer-of-requires
 answer-of-requires c κs = search needs

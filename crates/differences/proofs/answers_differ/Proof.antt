@@ -1,9 +1,10 @@
 use native.Mathlib.Omega.{arith}
-use mathlib.Core.Path.{sym}
+use mathlib.Core.Path.{sym, ap}
+use lib.ListN.{length}
 use lib.Seq.{length-take-le}
 use borrow.Author.Needs.{needs}
-use Rattle.vectors.proofs.answers_differ.Statement.{statement}
-use Rattle.vectors.proofs.answers_differ.Tie as tie
+use Rattle.differences.proofs.answers_differ.Statement.{statement}
+use Rattle.differences.proofs.answers_differ.Tie as tie
 
 large-buffer-requires : tie.Need-large-buffer-requires
 large-buffer-requires c κs = search needs
@@ -27,7 +28,7 @@ same-length : tie.Need-same-length
 same-length c = search needs
 
 returns : tie.Need-returns
-returns c = search needs
+returns c = λ e. omega (arith, ap length (c .text-differs .ensures .same e), slice-aggregate-text-differs (c .before))
 
 pub answers-differ-spec : {M : Type 1} → statement M
 answers-differ-spec =

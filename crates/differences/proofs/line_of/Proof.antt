@@ -1,7 +1,7 @@
 use Prim.Native.Nat.{_+_, _-_, _≤_}
 use borrow.Author.Needs.{needs}
-use Rattle.vectors.proofs.line_of.Statement.{statement}
-use Rattle.vectors.proofs.line_of.Tie as tie
+use Rattle.differences.proofs.line_of.Statement.{statement}
+use Rattle.differences.proofs.line_of.Tie as tie
 
 abbrev Inv-loop : tie.InvT-loop
 Inv-loop text at line₀ i₀ line i = (i ≤ at) × (line .number ≤ i + 1) × (line .start ≤ i)

@@ -3,8 +3,8 @@ use mathlib.Core.Path.{_≡_}
 use lib.ListN.{length}
 use Prim.Native.Nat.{_-_, _≤_}
 use borrow.Author.Needs.{needs}
-use Rattle.vectors.proofs.write_all.Statement.{statement}
-use Rattle.vectors.proofs.write_all.Tie as tie
+use Rattle.differences.proofs.write_all.Statement.{statement}
+use Rattle.differences.proofs.write_all.Tie as tie
 
 abbrev Inv-loop : tie.InvT-loop
 Inv-loop got₀ opened events told seen₀ headed at₀ i₀ got seen at i =
