@@ -20,29 +20,11 @@ abbrev μ-loop : tie.MeasureT-loop
 abbrev stepped : tie.After-room Inv-loop μ-loop → tie.After-step-accepted Inv-loop μ-loop
 stepped c = c .before .before .before .before
 
-read-full-requires : tie.Need-read-full-requires Inv-loop μ-loop
-read-full-requires c κs = search needs
-
-loop-holds : tie.Need-loop-holds Inv-loop μ-loop
-loop-holds c = search needs
-
-add-n : tie.Need-add-n Inv-loop μ-loop
-add-n c = omega arith
-
-slice-reshare-prefix-step-accepted : tie.Need-slice-reshare-prefix-step-accepted Inv-loop μ-loop
-slice-reshare-prefix-step-accepted c = search needs
-
 slice-aggregate-step-accepted : tie.Need-slice-aggregate-step-accepted Inv-loop μ-loop
 slice-aggregate-step-accepted c = sym (length-take-le _ _ (search needs))
 
-step-accepted-requires : tie.Need-step-accepted-requires Inv-loop μ-loop
-step-accepted-requires c κs = search needs
-
 room-requires : tie.Need-room-requires Inv-loop μ-loop
 room-requires c κs = (omega arith, omega arith)
-
-slice-read-put-line : tie.Need-slice-read-put-line Inv-loop μ-loop
-slice-read-put-line c = search needs
 
 put-line-requires : tie.Need-put-line-requires Inv-loop μ-loop
 put-line-requires c κs =
@@ -51,12 +33,6 @@ put-line-requires c κs =
     let v = looped .loop in
     let wide = looped .before .before .before .before in
     omega (arith, room-there (v .used) (length (v .out)) (omega (arith, wide .before .before .before .before .pre .1 .1)), roomed .room .ensures)
-
-read-full-requires-2 : tie.Need-read-full-requires-2 Inv-loop μ-loop
-read-full-requires-2 c κs = search needs
-
-loop-less : tie.Need-loop-less Inv-loop μ-loop
-loop-less c = omega arith
 
 loop-again : tie.Need-loop-again Inv-loop μ-loop
 loop-again c =
@@ -70,26 +46,8 @@ loop-again c =
     let within = at (told .put-line .ensures .1) (omega (arith, wide .before .before .before .before .pre .1 .1)) in
     (search needs, search needs, omega arith, search needs, omega (arith, within), search needs)
 
-slice-reshare-prefix-write-all : tie.Need-slice-reshare-prefix-write-all Inv-loop μ-loop
-slice-reshare-prefix-write-all c = search needs
-
 slice-aggregate-write-all : tie.Need-slice-aggregate-write-all Inv-loop μ-loop
 slice-aggregate-write-all c = sym (length-take-le _ _ (search needs))
-
-write-all-requires : tie.Need-write-all-requires Inv-loop μ-loop
-write-all-requires c κs = search needs
-
-same-length : tie.Need-same-length Inv-loop μ-loop
-same-length c = search needs
-
-same-length-2 : tie.Need-same-length-2 Inv-loop μ-loop
-same-length-2 c = search needs
-
-same-length-3 : tie.Need-same-length-3 Inv-loop μ-loop
-same-length-3 c = search needs
-
-returns : tie.Need-returns Inv-loop μ-loop
-returns c = search needs
 
 pub all-events-spec : {M : Type 1} → statement M
 all-events-spec =
@@ -97,22 +55,14 @@ all-events-spec =
     (tie.spec
     Inv-loop
     μ-loop
-    read-full-requires
-    loop-holds
-    add-n
-    slice-reshare-prefix-step-accepted
+    (λ c κs. search needs) (λ c. search needs) (λ c. omega arith) (λ c. search needs)
     slice-aggregate-step-accepted
-    step-accepted-requires
+    (λ c κs. search needs)
     room-requires
-    slice-read-put-line
+    (λ c. search needs)
     put-line-requires
-    read-full-requires-2
-    loop-less
+    (λ c κs. search needs) (λ c. omega arith)
     loop-again
-    slice-reshare-prefix-write-all
+    (λ c. search needs)
     slice-aggregate-write-all
-    write-all-requires
-    same-length
-    same-length-2
-    same-length-3
-    returns)
+    (λ c κs. search needs) (λ c. search needs) (λ c. search needs) (λ c. search needs) (λ c. search needs))

@@ -9,21 +9,15 @@ use borrow.Author.Needs.{needs}
 use Rattle.bench.proofs.room.Statement.{statement}
 use Rattle.bench.proofs.room.Tie as tie
 
-sub-if1 : tie.Need-sub-if1
-sub-if1 c = search needs
-
 returns : tie.Need-returns
 returns c = let a = c .before .before .args in rw (le-leb (a .used + longest-line) (length (a .out .now)) (omega arith))
 
 slice-aggregate-write-all : tie.Need-slice-aggregate-write-all
 slice-aggregate-write-all c = sym (length-take-le _ _ (search needs))
 
-write-all-requires : tie.Need-write-all-requires
-write-all-requires c κs = search needs
-
 returns-2 : tie.Need-returns-2
 returns-2 c = let a = c .before .before .before .before .args in rw (lt-leb (a .used + longest-line) (length (a .out .now)) (omega arith))
 
 pub room-spec : {M : Type 1} → statement M
 room-spec =
-    tie.close (tie.spec sub-if1 returns slice-aggregate-write-all write-all-requires returns-2)
+    tie.close (tie.spec (λ c. search needs) returns slice-aggregate-write-all (λ c κs. search needs) returns-2)

@@ -6,12 +6,9 @@ use Rattle.bits.proofs.clear_bit.Reads as reads
 use Rattle.bits.proofs.clear_bit.Lts as lts
 
 -- src/lib.rt:27:11
-shl-result : tie.Need-shl-result
-shl-result c = search needs
-
 -- src/lib.rt:23:1
 returns : tie.Need-returns
 returns c = and-put 32 (c .args .w) (c .args .k) (c .fits .w .fits) (c .pre)
 
 pub clear-bit-spec : {M : Type 1} → statement M
-clear-bit-spec = tie.close (tie.spec shl-result returns)
+clear-bit-spec = tie.close (tie.spec (λ c. search needs) returns)

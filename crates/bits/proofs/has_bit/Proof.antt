@@ -10,13 +10,10 @@ use Rattle.bits.proofs.has_bit.Reads as reads
 use Rattle.bits.proofs.has_bit.Lts as lts
 
 -- src/lib.rt:11:6
-shr-result : tie.Need-shr-result
-shr-result c = search needs
-
 -- src/lib.rt:7:1
 returns : tie.Need-returns
 unfolding digit
 returns c = ap (λ (x : ℕ). eqb x 1) (and-mask (c .args .w / 2 ^ c .args .k) 1)
 
 pub has-bit-spec : {M : Type 1} → statement M
-has-bit-spec = tie.close (tie.spec shr-result returns)
+has-bit-spec = tie.close (tie.spec (λ c. search needs) returns)

@@ -19,18 +19,6 @@ on c = c .before .before .before .before .before
 about-it : (c : tie.After-slot) → About 6 (decode (start c .args .s .now)) (start c .args .e) (c .slot .given .0 .0)
 about-it c = about 6 _ (start c .args .e) tt (λ h. h) (c .before .before .delete-certificate .ensures) (c .slot .given .1)
 
-delete-certificate-requires : tie.Need-delete-certificate-requires
-delete-certificate-requires c κs = search needs
-
-enum-known-code : tie.Need-enum-known-code
-enum-known-code c = search needs
-
-refused-requires : tie.Need-refused-requires
-refused-requires c κs = search needs
-
-enum-known-slot : tie.Need-enum-known-slot
-enum-known-slot c = search needs
-
 certificate-requires : tie.Need-certificate-requires
 certificate-requires c κs =
     let m = about-it (c .before .before) in
@@ -51,15 +39,6 @@ settle-own-requires c κs =
     let own = delete-own _ (accepted-phone _ (a .pre .0)) (a .args .e) (m .id) (about-named m (w .before .before .certificate .ensures)) in
     (settle-framed _ e (w .delete-certificate2 .ensures) (a .pre .0), said-own _ e (w .delete-certificate2 .ensures) _ own)
 
-same-length : tie.Need-same-length
-same-length c = search needs
-
-returns : tie.Need-returns
-returns c = search (plan-handled, needs)
-
-same-length-2 : tie.Need-same-length-2
-same-length-2 c = search needs
-
 returns-2 : tie.Need-returns-2
 unfolding effect delete-certificate done
 returns-2 c =
@@ -70,14 +49,10 @@ pub delete-certificate-spec : {M : Type 1} → statement M
 delete-certificate-spec =
     tie.close
     (tie.spec
-    delete-certificate-requires
-    enum-known-code
-    refused-requires
-    enum-known-slot
+    (λ c κs. search needs) (λ c. search needs) (λ c κs. search needs) (λ c. search needs)
     certificate-requires
     delete-certificate-requires-2
     settle-own-requires
-    same-length
-    returns
-    same-length-2
+    (λ c. search needs) (λ c. search (plan-handled, needs))
+    (λ c. search needs)
     returns-2)

@@ -13,41 +13,11 @@ start c = c .before .before .before .before .before
 abbrev on : tie.After-new-certificate → tie.After-slot
 on c = c .before .before .before .before
 
-install-certificate-requires : tie.Need-install-certificate-requires
-install-certificate-requires c κs = search needs
-
-enum-known-code : tie.Need-enum-known-code
-enum-known-code c = search needs
-
-refused-requires : tie.Need-refused-requires
-refused-requires c κs = search needs
-
-enum-known-slot : tie.Need-enum-known-slot
-enum-known-slot c = search needs
-
-mode-requires : tie.Need-mode-requires
-mode-requires c κs = search needs
-
-new-certificate-requires : tie.Need-new-certificate-requires
-new-certificate-requires c κs = search needs
-
 install-certificate-requires-2 : tie.Need-install-certificate-requires-2
 install-certificate-requires-2 c κs =
     let t = on (c .before) in
     let free = is-free _ (start t .args .e) (t .before .before .install-certificate .ensures) (t .slot .given .1) in
     search (free, needs)
-
-done-requires : tie.Need-done-requires
-done-requires c κs = search needs
-
-same-length : tie.Need-same-length
-same-length c = search needs
-
-returns : tie.Need-returns
-returns c = search (plan-handled, needs)
-
-same-length-2 : tie.Need-same-length-2
-same-length-2 c = search needs
 
 returns-2 : tie.Need-returns-2
 unfolding done
@@ -64,15 +34,9 @@ pub install-certificate-spec : {M : Type 1} → statement M
 install-certificate-spec =
     tie.close
     (tie.spec
-    install-certificate-requires
-    enum-known-code
-    refused-requires
-    enum-known-slot
-    mode-requires
-    new-certificate-requires
+    (λ c κs. search needs) (λ c. search needs) (λ c κs. search needs) (λ c. search needs)
+    (λ c κs. search needs) (λ c κs. search needs)
     install-certificate-requires-2
-    done-requires
-    same-length
-    returns
-    same-length-2
+    (λ c κs. search needs) (λ c. search needs) (λ c. search (plan-handled, needs))
+    (λ c. search needs)
     returns-2)

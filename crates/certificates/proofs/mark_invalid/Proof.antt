@@ -19,18 +19,6 @@ on c = c .before .before .before .before .before
 about-it : (c : tie.After-slot) → About 8 (decode (start c .args .s .now)) (start c .args .e) (c .slot .given .0 .0)
 about-it c = about 8 _ (start c .args .e) tt (λ h. h) (c .before .before .mark-invalid .ensures) (c .slot .given .1)
 
-mark-invalid-requires : tie.Need-mark-invalid-requires
-mark-invalid-requires c κs = search needs
-
-enum-known-code : tie.Need-enum-known-code
-enum-known-code c = search needs
-
-refused-requires : tie.Need-refused-requires
-refused-requires c κs = search needs
-
-enum-known-slot : tie.Need-enum-known-slot
-enum-known-slot c = search needs
-
 certificate-requires : tie.Need-certificate-requires
 certificate-requires c κs =
     let m = about-it (c .before .before) in
@@ -51,15 +39,6 @@ settle-own-requires c κs =
     let own = invalid-own _ (accepted-phone _ (a .pre .0)) (a .args .e) (m .id) (about-named m (w .before .before .certificate .ensures)) in
     (settle-framed _ e (w .mark-invalid2 .ensures) (a .pre .0), said-own _ e (w .mark-invalid2 .ensures) _ own)
 
-same-length : tie.Need-same-length
-same-length c = search needs
-
-returns : tie.Need-returns
-returns c = search (plan-handled, needs)
-
-same-length-2 : tie.Need-same-length-2
-same-length-2 c = search needs
-
 returns-2 : tie.Need-returns-2
 unfolding effect mark-invalid done
 returns-2 c =
@@ -70,14 +49,10 @@ pub mark-invalid-spec : {M : Type 1} → statement M
 mark-invalid-spec =
     tie.close
     (tie.spec
-    mark-invalid-requires
-    enum-known-code
-    refused-requires
-    enum-known-slot
+    (λ c κs. search needs) (λ c. search needs) (λ c κs. search needs) (λ c. search needs)
     certificate-requires
     mark-invalid-requires-2
     settle-own-requires
-    same-length
-    returns
-    same-length-2
+    (λ c. search needs) (λ c. search (plan-handled, needs))
+    (λ c. search needs)
     returns-2)

@@ -20,25 +20,10 @@ on c = c .before .before .before .before .before .before
 about-it : (c : tie.After-slot) → About 7 (decode (start c .args .s .now)) (start c .args .e) (c .slot .given .0 .0)
 about-it c = about 7 _ (start c .args .e) tt (λ h. h) (c .before .before .mark-valid .ensures) (c .slot .given .1)
 
-mark-valid-requires : tie.Need-mark-valid-requires
-mark-valid-requires c κs = search needs
-
-enum-known-code : tie.Need-enum-known-code
-enum-known-code c = search needs
-
-refused-requires : tie.Need-refused-requires
-refused-requires c κs = search needs
-
-enum-known-slot : tie.Need-enum-known-slot
-enum-known-slot c = search needs
-
 certificate-requires : tie.Need-certificate-requires
 certificate-requires c κs =
     let m = about-it (c .before .before) in
     search (m, needs)
-
-on-a-card-requires : tie.Need-on-a-card-requires
-on-a-card-requires c κs = search needs
 
 mark-valid-requires-2 : tie.Need-mark-valid-requires-2
 mark-valid-requires-2 c κs =
@@ -58,15 +43,6 @@ settle-if-requires c κs =
     let i = w .mark-valid2 .ensures in
     (settle-framed _ e i (a .pre .0), (settle-known _ e i (a .pre .0) refl, λ b. said-still _ e i (still (alone ∙ b))))
 
-same-length : tie.Need-same-length
-same-length c = search needs
-
-returns : tie.Need-returns
-returns c = search (plan-handled, needs)
-
-same-length-2 : tie.Need-same-length-2
-same-length-2 c = search needs
-
 returns-2 : tie.Need-returns-2
 unfolding effect mark-valid done
 returns-2 c =
@@ -77,15 +53,11 @@ pub mark-valid-spec : {M : Type 1} → statement M
 mark-valid-spec =
     tie.close
     (tie.spec
-    mark-valid-requires
-    enum-known-code
-    refused-requires
-    enum-known-slot
+    (λ c κs. search needs) (λ c. search needs) (λ c κs. search needs) (λ c. search needs)
     certificate-requires
-    on-a-card-requires
+    (λ c κs. search needs)
     mark-valid-requires-2
     settle-if-requires
-    same-length
-    returns
-    same-length-2
+    (λ c. search needs) (λ c. search (plan-handled, needs))
+    (λ c. search needs)
     returns-2)

@@ -15,21 +15,6 @@ start c = c .before .before .before
 abbrev allowed : tie.After-message2 → tie.Else1
 allowed c = c .before .before
 
-message-requires : tie.Need-message-requires
-message-requires c κs = search needs
-
-refused-requires : tie.Need-refused-requires
-refused-requires c κs = search needs
-
-same-length : tie.Need-same-length
-same-length c = search needs
-
-returns : tie.Need-returns
-returns c = search (handled-refused, needs)
-
-message-requires-2 : tie.Need-message-requires-2
-message-requires-2 c κs = search (c .before .before .message .ensures .1, needs)
-
 settle-if-requires : tie.Need-settle-if-requires
 unfolding effect message enabled-by
 settle-if-requires c κs =
@@ -39,9 +24,6 @@ settle-if-requires c κs =
     let still = message-still _ (accepted-phone _ (a .pre .0)) (a .args .e) in
     let i = w .message2 .ensures .0 in
     (settle-framed _ e i (a .pre .0), (settle-known _ e i (a .pre .0) refl, λ b. said-still _ e i (still (sym (w .message2 .ensures .1) ∙ b))))
-
-same-length-2 : tie.Need-same-length-2
-same-length-2 c = search needs
 
 returns-2 : tie.Need-returns-2
 unfolding effect message enabled-by done
@@ -54,11 +36,8 @@ pub message-spec : {M : Type 1} → statement M
 message-spec =
     tie.close
     (tie.spec
-    message-requires
-    refused-requires
-    same-length
-    returns
-    message-requires-2
+    (λ c κs. search needs) (λ c κs. search needs) (λ c. search needs) (λ c. search (handled-refused, needs))
+    (λ c κs. search (c .before .before .message .ensures .1, needs))
     settle-if-requires
-    same-length-2
+    (λ c. search needs)
     returns-2)

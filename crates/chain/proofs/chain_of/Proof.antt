@@ -3,12 +3,6 @@ use Rattle.chain.proofs.FirstHolder.{chain-held, chain-unheld}
 use Rattle.chain.proofs.chain_of.Statement.{statement}
 use Rattle.chain.proofs.chain_of.Tie as tie
 
-domain-of-requires : tie.Need-domain-of-requires
-domain-of-requires c κs = search needs
-
-links-of-requires : tie.Need-links-of-requires
-links-of-requires c κs = search needs
-
 returns : tie.Need-returns
 returns c =
     chain-unheld _ _ (c .before .before .before .before .pre .1) _ (c .before .before .domain-of .ensures) _ (c .before .links-of .ensures) (c .if1 .taken)
@@ -18,4 +12,4 @@ returns-2 c =
     chain-held _ _ (c .before .before .before .before .pre .1) _ (c .before .before .domain-of .ensures) _ (c .before .links-of .ensures) (c .if1 .left)
 
 pub chain-of-spec : {M : Type 1} → statement M
-chain-of-spec = tie.close (tie.spec domain-of-requires links-of-requires returns returns-2)
+chain-of-spec = tie.close (tie.spec (λ c κs. search needs) (λ c κs. search needs) returns returns-2)

@@ -7,18 +7,9 @@ use Rattle.chain.proofs.is_good.Tie as tie
 returns : tie.Need-returns
 returns c = never-good _ _ _ (c .if1 .taken)
 
-certificate-requires : tie.Need-certificate-requires
-certificate-requires c κs = search needs
-
-trusted-root-requires : tie.Need-trusted-root-requires
-trusted-root-requires c κs = search needs
-
 returns-2 : tie.Need-returns-2
 returns-2 c =
     good-root _ _ (c .before .before .before .if1 .left) _ _ (c .before .before .certificate .ensures) _ (c .before .trusted-root .ensures) (c .if2 .taken)
-
-is-link-requires : tie.Need-is-link-requires
-is-link-requires c κs = search needs
 
 returns-3 : tie.Need-returns-3
 returns-3 c =
@@ -26,12 +17,6 @@ returns-3 c =
     let q = z .before .before .certificate .ensures in
     let g = good-unlinked _ _ (z .before .before .before .if1 .left) _ _ q _ (z .before .trusted-root .ensures) (z .if2 .left) in
     g _ (c .before .is-link .ensures) (not-true _ (c .if3 .taken))
-
-sub-links-within : tie.Need-sub-links-within
-sub-links-within c = search needs
-
-links-within-requires : tie.Need-links-within-requires
-links-within-requires c κs = search needs
 
 returns-4 : tie.Need-returns-4
 returns-4 c =
@@ -46,11 +31,9 @@ is-good-spec =
     tie.close
     (tie.spec
     returns
-    certificate-requires
-    trusted-root-requires
+    (λ c κs. search needs) (λ c κs. search needs)
     returns-2
-    is-link-requires
+    (λ c κs. search needs)
     returns-3
-    sub-links-within
-    links-within-requires
+    (λ c. search needs) (λ c κs. search needs)
     returns-4)

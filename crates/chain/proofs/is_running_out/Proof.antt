@@ -33,14 +33,8 @@ module _ (clock n : ℕ) (c : Certificate) {b : Bool} (q : b ≡ in-date n c) wh
       ∙ ap (λ b. eqb (c .kind) 1 && in-date clock c && not b) (sym h)
       ∙ at-later (eqb (c .kind) 1 && in-date clock c)
 
-in-date-requires : tie.Need-in-date-requires
-in-date-requires c κs = search needs
-
 returns : tie.Need-returns
 returns c = still _ _ _ (c .before .in-date .ensures) (c .if1 .taken)
-
-in-date-requires-2 : tie.Need-in-date-requires-2
-in-date-requires-2 c κs = search needs
 
 returns-2 : tie.Need-returns-2
 returns-2 c =
@@ -48,4 +42,4 @@ returns-2 c =
     over _ _ _ (e .before .in-date .ensures) (e .if1 .left) (c .in-date2 .ensures)
 
 pub is-running-out-spec : {M : Type 1} → statement M
-is-running-out-spec = tie.close (tie.spec in-date-requires returns in-date-requires-2 returns-2)
+is-running-out-spec = tie.close (tie.spec (λ c κs. search needs) returns (λ c κs. search needs) returns-2)

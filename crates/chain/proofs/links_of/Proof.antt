@@ -6,11 +6,8 @@ use Rattle.chain.proofs.links_of.Tie as tie
 returns : tie.Need-returns
 returns c = links-unsigned _ _ _ (c .if1 .taken)
 
-links-within-requires : tie.Need-links-within-requires
-links-within-requires c κs = search needs
-
 returns-2 : tie.Need-returns-2
 returns-2 c = links-by _ _ _ _ (both-signed _ _ (c .before .if1 .left)) (c .links-within .ensures)
 
 pub links-of-spec : {M : Type 1} → statement M
-links-of-spec = tie.close (tie.spec returns links-within-requires returns-2)
+links-of-spec = tie.close (tie.spec returns (λ c κs. search needs) returns-2)

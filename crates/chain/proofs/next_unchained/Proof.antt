@@ -25,17 +25,8 @@ Inv-loop s domain good from slots i₀ i =
 abbrev μ-loop : tie.MeasureT-loop
 μ-loop s domain good from slots i₀ i = slots - i
 
-executable-slots-requires : tie.Need-executable-slots-requires Inv-loop μ-loop
-executable-slots-requires c κs = search needs
-
 loop-holds : tie.Need-loop-holds Inv-loop μ-loop
 loop-holds c = (omega arith, search needs, search needs, λ j lt le. absurd (omega arith))
-
-executable-requires : tie.Need-executable-requires Inv-loop μ-loop
-executable-requires c κs = search needs
-
-is-chained-requires : tie.Need-is-chained-requires Inv-loop μ-loop
-is-chained-requires c κs = search needs
 
 returns : tie.Need-returns Inv-loop μ-loop
 returns c =
@@ -46,12 +37,6 @@ returns c =
       passed = v .inv .3;
       here = λ _. ap (chained-in _ _) (sym (c .before .before .executable .ensures)) ∙ sym (c .before .is-chained .ensures) ∙ not-true _ (c .if1 .taken);
     }
-
-add-i : tie.Need-add-i Inv-loop μ-loop
-add-i c = search needs
-
-loop-less : tie.Need-loop-less Inv-loop μ-loop
-loop-less c = search needs
 
 loop-again : tie.Need-loop-again Inv-loop μ-loop
 loop-again c =
@@ -76,12 +61,10 @@ next-unchained-spec =
     (tie.spec
     Inv-loop
     μ-loop
-    executable-slots-requires
+    (λ c κs. search needs)
     loop-holds
-    executable-requires
-    is-chained-requires
+    (λ c κs. search needs) (λ c κs. search needs)
     returns
-    add-i
-    loop-less
+    (λ c. search needs) (λ c. search needs)
     loop-again
     returns-2)

@@ -27,20 +27,8 @@ Inv-loop s t slots clock i₀ i =
 abbrev μ-loop : tie.MeasureT-loop
 μ-loop s t slots clock i₀ i = slots - i
 
-certificate-slots-requires : tie.Need-certificate-slots-requires Inv-loop μ-loop
-certificate-slots-requires c κs = search needs
-
-clock-requires : tie.Need-clock-requires Inv-loop μ-loop
-clock-requires c κs = search needs
-
 loop-holds : tie.Need-loop-holds Inv-loop μ-loop
 loop-holds c = (search needs, search needs, search needs, refl)
-
-certificate-requires : tie.Need-certificate-requires Inv-loop μ-loop
-certificate-requires c κs = search needs
-
-is-running-out-requires : tie.Need-is-running-out-requires Inv-loop μ-loop
-is-running-out-requires c κs = search needs
 
 returns : tie.Need-returns Inv-loop μ-loop
 returns c =
@@ -49,12 +37,6 @@ returns c =
     any-stops no-certificate _ (z .loop .i) (runs-out (decode (a .s .now) .trust .seen .clock) (a .t)) _ (z .loop .inv .3) (omega arith)
     (c .before .before .certificate .ensures)
     (cc (c .before .is-running-out .ensures, z .loop .inv .2, c .if1 .taken))
-
-add-i : tie.Need-add-i Inv-loop μ-loop
-add-i c = search needs
-
-loop-less : tie.Need-loop-less Inv-loop μ-loop
-loop-less c = search needs
 
 loop-again : tie.Need-loop-again Inv-loop μ-loop
 loop-again c =
@@ -74,13 +56,10 @@ runs-out-spec =
     (tie.spec
     Inv-loop
     μ-loop
-    certificate-slots-requires
-    clock-requires
+    (λ c κs. search needs) (λ c κs. search needs)
     loop-holds
-    certificate-requires
-    is-running-out-requires
+    (λ c κs. search needs) (λ c κs. search needs)
     returns
-    add-i
-    loop-less
+    (λ c. search needs) (λ c. search needs)
     loop-again
     returns-2)

@@ -3,9 +3,6 @@ use Rattle.chain.proofs.SettledInTurn.{turn-framed, turns-written}
 use Rattle.chain.proofs.settle.Statement.{statement}
 use Rattle.chain.proofs.settle.Tie as tie
 
-settle-domain-requires : tie.Need-settle-domain-requires
-settle-domain-requires c κs = search needs
-
 settle-domain-requires-2 : tie.Need-settle-domain-requires-2
 settle-domain-requires-2 c κs =
     let first = c .before .before .before in
@@ -20,9 +17,6 @@ settle-domain-requires-3 c κs =
     let framed = turn-framed 1 (start .args .s .now) (start .pre .0) (first .settle-domain .ensures) in
     turn-framed 2 (first .settle-domain .last .0) framed (second .settle-domain2 .ensures)
 
-same-length : tie.Need-same-length
-same-length c = search needs
-
 returns : tie.Need-returns
 returns c =
     let third = c .before .before in
@@ -36,8 +30,8 @@ pub settle-spec : {M : Type 1} → statement M
 settle-spec =
     tie.close
     (tie.spec
-    settle-domain-requires
+    (λ c κs. search needs)
     settle-domain-requires-2
     settle-domain-requires-3
-    same-length
+    (λ c. search needs)
     returns)

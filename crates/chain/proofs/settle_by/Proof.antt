@@ -16,12 +16,6 @@ Inv-loop s₀ domain good slots i₀ s i = (slots ≤ 64) × Settling domain s�
 abbrev μ-loop : tie.MeasureT-loop
 μ-loop s₀ domain good slots i₀ s i = slots - i
 
-executable-slots-requires : tie.Need-executable-slots-requires Inv-loop μ-loop
-executable-slots-requires c κs = search needs
-
-next-unchained-requires : tie.Need-next-unchained-requires Inv-loop μ-loop
-next-unchained-requires c κs = search needs
-
 loop-holds : tie.Need-loop-holds Inv-loop μ-loop
 loop-holds c =
     let z = c .before .before .before .before .before in
@@ -30,9 +24,6 @@ loop-holds c =
 
 set-domain-requires : tie.Need-set-domain-requires Inv-loop μ-loop
 set-domain-requires c κs = let w = c .before .before .loop .inv .1 .swept in (w .framed, omega (arith, w .as-many))
-
-add-next-unchained : tie.Need-add-next-unchained Inv-loop μ-loop
-add-next-unchained c = search needs
 
 next-unchained-requires-2 : tie.Need-next-unchained-requires-2 Inv-loop μ-loop
 next-unchained-requires-2 c κs =
@@ -56,9 +47,6 @@ loop-again c =
     let w = settling-writes (z .args .domain) (z .args .s .now) (v .inv .1) (omega arith) (search needs) u in
     (search needs, settling-next (z .args .domain) (z .args .s .now) _ _ w (c .next-unchained2 .ensures))
 
-same-length : tie.Need-same-length Inv-loop μ-loop
-same-length c = search needs
-
 returns : tie.Need-returns Inv-loop μ-loop
 unfolding settle-in
 returns c = sweep-ends executables _ (c .before .loop .inv .1 .swept) (omega arith)
@@ -69,13 +57,12 @@ settle-by-spec =
     (tie.spec
     Inv-loop
     μ-loop
-    executable-slots-requires
-    next-unchained-requires
+    (λ c κs. search needs) (λ c κs. search needs)
     loop-holds
     set-domain-requires
-    add-next-unchained
+    (λ c. search needs)
     next-unchained-requires-2
     loop-less
     loop-again
-    same-length
+    (λ c. search needs)
     returns)

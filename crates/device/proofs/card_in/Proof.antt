@@ -19,30 +19,6 @@ decided c = sym (c .before .before .before .card-in .ensures) ∙ c .before .bef
 effected : (c : tie.After-card-in2) → let a = start (c .before .before .before) .args in Effected 2 (a .s .now) (a .e) (c .card-in2 .last .0) true
 effected c = let z = start (c .before .before .before) in put-in (z .args .e) (z .pre .0) (c .card-in2 .ensures)
 
-card-in-requires : tie.Need-card-in-requires
-card-in-requires c κs = search needs
-
-refused-requires : tie.Need-refused-requires
-refused-requires c κs = search needs
-
-same-length : tie.Need-same-length
-same-length c = search needs
-
-returns : tie.Need-returns
-returns c = search handled-refused
-
-has-valid-operator-requires : tie.Need-has-valid-operator-requires
-has-valid-operator-requires c κs = search needs
-
-card-only-requires : tie.Need-card-only-requires
-card-only-requires c κs = search needs
-
-done-requires : tie.Need-done-requires
-done-requires c κs = search needs
-
-same-length-2 : tie.Need-same-length-2
-same-length-2 c = search needs
-
 returns-2 : tie.Need-returns-2
 returns-2 c =
     let wrote = c .before .before .before in
@@ -51,14 +27,8 @@ returns-2 c =
     put-in-only (z .args .e) (z .pre .0) (decided (none .before)) (none .before .has-valid-operator .ensures) (none .if2 .taken) (c .done .ensures)
     (wrote .card-only .ensures)
 
-card-in-requires-2 : tie.Need-card-in-requires-2
-card-in-requires-2 c κs = search needs
-
 settle-requires : tie.Need-settle-requires
 settle-requires c κs = let asks = settle-asks (effected (c .before .before .before)) in (asks .0, asks .1 .0)
-
-same-length-3 : tie.Need-same-length-3
-same-length-3 c = search needs
 
 returns-3 : tie.Need-returns-3
 returns-3 c =
@@ -70,16 +40,10 @@ pub card-in-spec : {M : Type 1} → statement M
 card-in-spec =
     tie.close
     (tie.spec
-    card-in-requires
-    refused-requires
-    same-length
-    returns
-    has-valid-operator-requires
-    card-only-requires
-    done-requires
-    same-length-2
+    (λ c κs. search needs) (λ c κs. search needs) (λ c. search needs) (λ c. search handled-refused)
+    (λ c κs. search needs) (λ c κs. search needs) (λ c κs. search needs) (λ c. search needs)
     returns-2
-    card-in-requires-2
+    (λ c κs. search needs)
     settle-requires
-    same-length-3
+    (λ c. search needs)
     returns-3)

@@ -16,29 +16,8 @@ effected : (c : tie.After-tick)
     → let a = start (decided c .before) .args in Effected 1 (a .s .now) (a .e) (c .tick .last .0) (c .before .before .runs-out .result)
 effected c = let z = start (decided c .before) in ticked (z .args .e) (z .pre .0) (c .before .before .runs-out .ensures) (c .tick .ensures)
 
-clock-requires : tie.Need-clock-requires
-clock-requires c κs = search needs
-
-refused-requires : tie.Need-refused-requires
-refused-requires c κs = search needs
-
-same-length : tie.Need-same-length
-same-length c = search needs
-
-returns : tie.Need-returns
-returns c = search handled-refused
-
-runs-out-requires : tie.Need-runs-out-requires
-runs-out-requires c κs = search needs
-
-tick-requires : tie.Need-tick-requires
-tick-requires c κs = search needs
-
 settle-if-requires : tie.Need-settle-if-requires
 settle-if-requires c κs = settle-asks (effected (c .before .before .before))
-
-same-length-2 : tie.Need-same-length-2
-same-length-2 c = search needs
 
 returns-2 : tie.Need-returns-2
 returns-2 c =
@@ -50,12 +29,8 @@ pub clock-spec : {M : Type 1} → statement M
 clock-spec =
     tie.close
     (tie.spec
-    clock-requires
-    refused-requires
-    same-length
-    returns
-    runs-out-requires
-    tick-requires
+    (λ c κs. search needs) (λ c κs. search needs) (λ c. search needs) (λ c. search handled-refused)
+    (λ c κs. search needs) (λ c κs. search needs)
     settle-if-requires
-    same-length-2
+    (λ c. search needs)
     returns-2)

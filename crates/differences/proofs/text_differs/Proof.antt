@@ -3,17 +3,8 @@ use Rattle.differences.proofs.SameBytes.{same-to-the-end, other-byte, o
 use Rattle.differences.proofs.text_differs.Statement.{statement}
 use Rattle.differences.proofs.text_differs.Tie as tie
 
-first-difference-requires : tie.Need-first-difference-requires
-first-difference-requires c κs = search needs
-
-tell-line-requires : tie.Need-tell-line-requires
-tell-line-requires c κs = search needs
-
 returns : tie.Need-returns
 returns c = other-byte _ _ _ (c .before .before .first-difference .ensures) (search needs)
-
-tell-line-requires-2 : tie.Need-tell-line-requires-2
-tell-line-requires-2 c κs = search needs
 
 returns-2 : tie.Need-returns-2
 returns-2 c = other-byte-behind _ _ _ (c .before .before .before .first-difference .ensures) (search needs)
@@ -25,9 +16,8 @@ pub text-differs-spec : {M : Type 1} → statement M
 text-differs-spec =
     tie.close
     (tie.spec
-    first-difference-requires
-    tell-line-requires
+    (λ c κs. search needs) (λ c κs. search needs)
     returns
-    tell-line-requires-2
+    (λ c κs. search needs)
     returns-2
     returns-3)

@@ -3,17 +3,8 @@ use borrow.Author.Needs.{needs}
 use Rattle.events.proofs.step_accepted.Statement.{statement}
 use Rattle.events.proofs.step_accepted.Tie as tie
 
-refused-requires : tie.Need-refused-requires
-refused-requires c κs = search needs
-
 returns : tie.Need-returns
 returns c = short-stepped _ _ (c .before .before .before .before .pre) (c .before .if1 .taken) _ (c .refused .ensures)
-
-handle-requires : tie.Need-handle-requires
-handle-requires c κs = search needs
-
-same-length : tie.Need-same-length
-same-length c = search needs
 
 returns-2 : tie.Need-returns-2
 returns-2 c =
@@ -22,4 +13,4 @@ returns-2 c =
     handled-stepped _ _ (i .before .before .before .pre) (i .if1 .left) _ _ (λ j. c .slice-known2 .given j .fits) (h .handle .ensures)
 
 pub step-accepted-spec : {M : Type 1} → statement M
-step-accepted-spec = tie.close (tie.spec refused-requires returns handle-requires same-length returns-2)
+step-accepted-spec = tie.close (tie.spec (λ c κs. search needs) returns (λ c κs. search needs) (λ c. search needs) returns-2)

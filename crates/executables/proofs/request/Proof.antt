@@ -12,29 +12,8 @@ start c = c .before .before
 acts : (c : tie.After-slot) → let a = start (c .before .before) .args in Acts 15 (a .e .id) (a .s .now) (a .e) (c .slot .given .0 .0)
 acts c = let z = start (c .before .before) in acts-named 15 _ (z .args .e) (z .pre .0) tt (c .before .before .request .ensures) (c .slot .given .1)
 
-request-requires : tie.Need-request-requires
-request-requires c κs = search needs
-
-enum-known-code : tie.Need-enum-known-code
-enum-known-code c = search needs
-
-refused-requires : tie.Need-refused-requires
-refused-requires c κs = search needs
-
-enum-known-slot : tie.Need-enum-known-slot
-enum-known-slot c = search needs
-
 executable-requires : tie.Need-executable-requires
 executable-requires c κs = let a = acts (c .before) in (a .accepted .framed, a .within)
-
-links-of-requires : tie.Need-links-of-requires
-links-of-requires c κs = search needs
-
-done-requires : tie.Need-done-requires
-done-requires c κs = search needs
-
-returns : tie.Need-returns
-returns c = search plan-handled
 
 returns-2 : tie.Need-returns-2
 returns-2 c = request-done (acts (c .before .before .before .before)) (c .before .before .executable .ensures) (c .before .links-of .ensures) (c .done .ensures)
@@ -43,12 +22,7 @@ pub request-spec : {M : Type 1} → statement M
 request-spec =
     tie.close
     (tie.spec
-    request-requires
-    enum-known-code
-    refused-requires
-    enum-known-slot
+    (λ c κs. search needs) (λ c. search needs) (λ c κs. search needs) (λ c. search needs)
     executable-requires
-    links-of-requires
-    done-requires
-    returns
+    (λ c κs. search needs) (λ c κs. search needs) (λ c. search plan-handled)
     returns-2)

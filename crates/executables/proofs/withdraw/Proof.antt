@@ -12,34 +12,10 @@ start c = c .before .before .before
 acts : (c : tie.After-slot) → let a = start (c .before .before) .args in Acts 14 (a .e .id) (a .s .now) (a .e) (c .slot .given .0 .0)
 acts c = let z = start (c .before .before) in acts-named 14 _ (z .args .e) (z .pre .0) tt (c .before .before .withdraw .ensures) (c .slot .given .1)
 
-withdraw-requires : tie.Need-withdraw-requires
-withdraw-requires c κs = search needs
-
-enum-known-code : tie.Need-enum-known-code
-enum-known-code c = search needs
-
-refused-requires : tie.Need-refused-requires
-refused-requires c κs = search needs
-
-enum-known-slot : tie.Need-enum-known-slot
-enum-known-slot c = search needs
-
 withdraw-requires-2 : tie.Need-withdraw-requires-2
 withdraw-requires-2 c κs =
     let a = acts (c .before .before) in
     (a .accepted, (a .place, (a .within, withdraw-asks a)))
-
-done-requires : tie.Need-done-requires
-done-requires c κs = search needs
-
-same-length : tie.Need-same-length
-same-length c = search needs
-
-returns : tie.Need-returns
-returns c = search plan-handled
-
-same-length-2 : tie.Need-same-length-2
-same-length-2 c = search needs
 
 returns-2 : tie.Need-returns-2
 returns-2 c =
@@ -50,13 +26,7 @@ pub withdraw-spec : {M : Type 1} → statement M
 withdraw-spec =
     tie.close
     (tie.spec
-    withdraw-requires
-    enum-known-code
-    refused-requires
-    enum-known-slot
+    (λ c κs. search needs) (λ c. search needs) (λ c κs. search needs) (λ c. search needs)
     withdraw-requires-2
-    done-requires
-    same-length
-    returns
-    same-length-2
+    (λ c κs. search needs) (λ c. search needs) (λ c. search plan-handled) (λ c. search needs)
     returns-2)

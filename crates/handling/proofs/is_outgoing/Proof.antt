@@ -3,12 +3,9 @@ use Rattle.handling.specs.Retiring.{outgoing}
 use Rattle.handling.proofs.is_outgoing.Statement.{statement}
 use Rattle.handling.proofs.is_outgoing.Tie as tie
 
-is-phone-operator-root-requires : tie.Need-is-phone-operator-root-requires
-is-phone-operator-root-requires c κs = search needs
-
 returns : tie.Need-returns
 unfolding outgoing
 returns c = cc
 
 pub is-outgoing-spec : {M : Type 1} → statement M
-is-outgoing-spec = tie.close (tie.spec is-phone-operator-root-requires returns)
+is-outgoing-spec = tie.close (tie.spec (λ c κs. search needs) returns)

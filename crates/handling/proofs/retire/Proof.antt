@@ -15,23 +15,8 @@ Inv-loop s₀ every operator slots i₀ s i = Sweeping certificates (retire ever
 abbrev μ-loop : tie.MeasureT-loop
 μ-loop s₀ every operator slots i₀ s i = slots - i
 
-certificate-slots-requires : tie.Need-certificate-slots-requires Inv-loop μ-loop
-certificate-slots-requires c κs = search needs
-
 loop-holds : tie.Need-loop-holds Inv-loop μ-loop
 loop-holds c = sweep-starts certificates _ (c .before .before .before .pre) (c .certificate-slots .ensures .0)
-
-certificate-requires : tie.Need-certificate-requires Inv-loop μ-loop
-certificate-requires c κs = search needs
-
-is-outgoing-requires : tie.Need-is-outgoing-requires Inv-loop μ-loop
-is-outgoing-requires c κs = search needs
-
-add-i : tie.Need-add-i Inv-loop μ-loop
-add-i c = search needs
-
-loop-less : tie.Need-loop-less Inv-loop μ-loop
-loop-less c = search needs
 
 loop-again : tie.Need-loop-again Inv-loop μ-loop
 loop-again c =
@@ -40,15 +25,6 @@ loop-again c =
     let a = v .before .before .before .before .args in
     sweep-skips certificates _ (v .loop .inv) (omega arith)
     (retire-skipped (a .every) (a .operator) (r .certificate .ensures) (c .before .is-outgoing .ensures) (not-true _ (c .if1 .taken)))
-
-set-mark-requires : tie.Need-set-mark-requires Inv-loop μ-loop
-set-mark-requires c κs = search needs
-
-add-i-2 : tie.Need-add-i-2 Inv-loop μ-loop
-add-i-2 c = search needs
-
-loop-less-2 : tie.Need-loop-less-2 Inv-loop μ-loop
-loop-less-2 c = search needs
 
 loop-again-2 : tie.Need-loop-again-2 Inv-loop μ-loop
 loop-again-2 c =
@@ -61,9 +37,6 @@ loop-again-2 c =
     (retire-written (a .every) (a .operator) (r .certificate .ensures) (i .before .is-outgoing .ensures) (not-false _ (i .if1 .left)))
     (w .set-mark .ensures)
 
-same-length : tie.Need-same-length Inv-loop μ-loop
-same-length c = search needs
-
 returns : tie.Need-returns Inv-loop μ-loop
 returns c = sweep-ends certificates _ (c .before .loop .inv) (omega arith)
 
@@ -73,16 +46,11 @@ retire-spec =
     (tie.spec
     Inv-loop
     μ-loop
-    certificate-slots-requires
+    (λ c κs. search needs)
     loop-holds
-    certificate-requires
-    is-outgoing-requires
-    add-i
-    loop-less
+    (λ c κs. search needs) (λ c κs. search needs) (λ c. search needs) (λ c. search needs)
     loop-again
-    set-mark-requires
-    add-i-2
-    loop-less-2
+    (λ c κs. search needs) (λ c. search needs) (λ c. search needs)
     loop-again-2
-    same-length
+    (λ c. search needs)
     returns)

@@ -42,9 +42,6 @@ began c = c .before .before .before .before .before .before
 abbrev asked : tie.Then2 Inv-loop μ-loop → tie.At-loop Inv-loop μ-loop
 asked c = c .before .before .before .before .before .before
 
-certificate-slots-requires : tie.Need-certificate-slots-requires Inv-loop μ-loop
-certificate-slots-requires c κs = search needs
-
 loop-holds : tie.Need-loop-holds Inv-loop μ-loop
 loop-holds c =
     let n = c .certificate-slots .result in (
@@ -55,32 +52,14 @@ loop-holds c =
       place-back-end _ no-certificate _ n (omega arith),
     )
 
-sub-i : tie.Need-sub-i Inv-loop μ-loop
-sub-i c = search needs
-
-certificate-requires : tie.Need-certificate-requires Inv-loop μ-loop
-certificate-requires c κs = search needs
-
 returns : tie.Need-returns Inv-loop μ-loop
 returns c =
     let i = c .before .before .before .before .loop .i - 1 in
     let same = ap (λ x. x .id) (sym (c .before .before .certificate .ensures)) ∙ c .if1 .taken in
     certificate-taken _ _ _ _ (somewhere _ no-certificate _ i (omega arith) (eq-eqb _ _ same))
 
-in-another-requires : tie.Need-in-another-requires Inv-loop μ-loop
-in-another-requires c κs = search needs
-
-certificate-slot-requires : tie.Need-certificate-slot-requires Inv-loop μ-loop
-certificate-slot-requires c κs = search needs
-
-enum-told : tie.Need-enum-told Inv-loop μ-loop
-enum-told c = search needs
-
 returns-2 : tie.Need-returns-2 Inv-loop μ-loop
 returns-2 c = certificate-taken _ _ _ _ (at-some (has-id _) _ (c .before .before .certificate-slot .ensures) (c .enum-told .given .1))
-
-enum-told-2 : tie.Need-enum-told-2 Inv-loop μ-loop
-enum-told-2 c = search needs
 
 returns-3 : tie.Need-returns-3 Inv-loop μ-loop
 returns-3 c =
@@ -111,9 +90,6 @@ apart c =
     any-back no-certificate _ (v .i - 1) (in-another (a .key) (a .domain)) false false {j = v .i} (v .inv .3) (omega arith) (omega arith)
     (sym (c .if2 .left) ∙ c .before .in-another .ensures ∙ ap (in-another (a .key) (a .domain)) (c .before .before .before .before .certificate .ensures))
 
-loop-less : tie.Need-loop-less Inv-loop μ-loop
-loop-less c = search needs
-
 loop-again : tie.Need-loop-again Inv-loop μ-loop
 loop-again c =
     let v = began (c .before .before) .loop in
@@ -124,9 +100,6 @@ loop-again c =
       apart (c .before .before),
       place-back _ no-certificate _ (v .i - 1) (v .inv .4) (omega arith) (omega arith) (ne-eqb _ _ (λ zero. c .if3 .taken (ap (λ x. x .id) held ∙ zero))),
     )
-
-loop-less-2 : tie.Need-loop-less-2 Inv-loop μ-loop
-loop-less-2 c = search needs
 
 loop-again-2 : tie.Need-loop-again-2 Inv-loop μ-loop
 loop-again-2 c =
@@ -165,20 +138,17 @@ certificate-room-spec =
     (tie.spec
     Inv-loop
     μ-loop
-    certificate-slots-requires
+    (λ c κs. search needs)
     loop-holds
-    sub-i
-    certificate-requires
+    (λ c. search needs) (λ c κs. search needs)
     returns
-    in-another-requires
-    certificate-slot-requires
-    enum-told
+    (λ c κs. search needs) (λ c κs. search needs) (λ c. search needs)
     returns-2
-    enum-told-2
+    (λ c. search needs)
     returns-3
-    loop-less
+    (λ c. search needs)
     loop-again
-    loop-less-2
+    (λ c. search needs)
     loop-again-2
     returns-4
     returns-5)

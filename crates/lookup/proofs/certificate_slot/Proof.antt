@@ -18,25 +18,13 @@ Inv-loop s id slots i₀ i = (i ≤ slots) × (slots ≡ length (decode s .trust
 abbrev μ-loop : tie.MeasureT-loop
 μ-loop s id slots i₀ i = slots - i
 
-certificate-slots-requires : tie.Need-certificate-slots-requires Inv-loop μ-loop
-certificate-slots-requires c κs = search needs
-
 loop-holds : tie.Need-loop-holds Inv-loop μ-loop
 loop-holds c = (search needs, search needs, sym (zero-add _))
-
-certificate-has-id-requires : tie.Need-certificate-has-id-requires Inv-loop μ-loop
-certificate-has-id-requires c κs = search needs
 
 returns : tie.Need-returns Inv-loop μ-loop
 returns c =
     let v = c .before .before .before .loop in
     found-here _ _ no-certificate (v .i) (v .inv .2) (omega arith) (sym (c .before .certificate-has-id .ensures) ∙ c .if1 .taken)
-
-add-i : tie.Need-add-i Inv-loop μ-loop
-add-i c = search needs
-
-loop-less : tie.Need-loop-less Inv-loop μ-loop
-loop-less c = search needs
 
 loop-again : tie.Need-loop-again Inv-loop μ-loop
 loop-again c =
@@ -52,11 +40,10 @@ certificate-slot-spec =
     (tie.spec
     Inv-loop
     μ-loop
-    certificate-slots-requires
+    (λ c κs. search needs)
     loop-holds
-    certificate-has-id-requires
+    (λ c κs. search needs)
     returns
-    add-i
-    loop-less
+    (λ c. search needs) (λ c. search needs)
     loop-again
     returns-2)

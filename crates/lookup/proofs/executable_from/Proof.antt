@@ -17,25 +17,13 @@ Inv-loop s id from slots i₀ i = (i ≤ slots) × (slots ≡ length (decode s .
 abbrev μ-loop : tie.MeasureT-loop
 μ-loop s id from slots i₀ i = slots - i
 
-executable-slots-requires : tie.Need-executable-slots-requires Inv-loop μ-loop
-executable-slots-requires c κs = search needs
-
 loop-holds : tie.Need-loop-holds Inv-loop μ-loop
 loop-holds c = (search needs, search needs, c .before .before .pre .1 .1)
-
-executable-has-id-requires : tie.Need-executable-has-id-requires Inv-loop μ-loop
-executable-has-id-requires c κs = search needs
 
 returns : tie.Need-returns Inv-loop μ-loop
 returns c =
     let v = c .before .before .before .loop in
     found-here _ _ no-executable (v .i) (v .inv .2) (omega arith) (sym (c .before .executable-has-id .ensures) ∙ c .if1 .taken)
-
-add-i : tie.Need-add-i Inv-loop μ-loop
-add-i c = search needs
-
-loop-less : tie.Need-loop-less Inv-loop μ-loop
-loop-less c = search needs
 
 loop-again : tie.Need-loop-again Inv-loop μ-loop
 loop-again c =
@@ -51,11 +39,10 @@ executable-from-spec =
     (tie.spec
     Inv-loop
     μ-loop
-    executable-slots-requires
+    (λ c κs. search needs)
     loop-holds
-    executable-has-id-requires
+    (λ c κs. search needs)
     returns
-    add-i
-    loop-less
+    (λ c. search needs) (λ c. search needs)
     loop-again
     returns-2)

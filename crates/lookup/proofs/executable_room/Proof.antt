@@ -29,27 +29,15 @@ Inv-loop s id slots slot₀ i₀ slot i =
 abbrev μ-loop : tie.MeasureT-loop
 μ-loop s id slots slot₀ i₀ slot i = i
 
-executable-slots-requires : tie.Need-executable-slots-requires Inv-loop μ-loop
-executable-slots-requires c κs = search needs
-
 loop-holds : tie.Need-loop-holds Inv-loop μ-loop
 loop-holds c =
     let n = c .executable-slots .result in
     (search needs, search needs, sym (any-end no-executable _ n _ (omega arith)), place-back-end _ no-executable _ n (omega arith))
 
-sub-i : tie.Need-sub-i Inv-loop μ-loop
-sub-i c = search needs
-
-executable-has-id-requires : tie.Need-executable-has-id-requires Inv-loop μ-loop
-executable-has-id-requires c κs = search needs
-
 returns : tie.Need-returns Inv-loop μ-loop
 returns c =
     let i = c .before .before .before .loop .i - 1 in
     executable-taken _ _ (somewhere _ no-executable _ i (omega arith) (sym (c .before .executable-has-id .ensures) ∙ c .if1 .taken))
-
-executable-has-id-requires-2 : tie.Need-executable-has-id-requires-2 Inv-loop μ-loop
-executable-has-id-requires-2 c κs = search needs
 
 -- so it is from this slot on
 abbrev Kept : tie.At-loop Inv-loop μ-loop → Type 0
@@ -61,9 +49,6 @@ kept c =
     let other = sym (c .if1 .left) ∙ c .before .executable-has-id .ensures in
     any-back no-executable _ (v .i - 1) _ false false {j = v .i} (v .inv .2) (omega arith) (omega arith) other
 
-loop-less : tie.Need-loop-less Inv-loop μ-loop
-loop-less c = search needs
-
 loop-again : tie.Need-loop-again Inv-loop μ-loop
 loop-again c =
     let v = c .before .before .before .before .before .loop in
@@ -73,9 +58,6 @@ loop-again c =
       kept (c .before .before),
       place-back _ no-executable _ (v .i - 1) (v .inv .3) (omega arith) (omega arith) used,
     )
-
-loop-less-2 : tie.Need-loop-less-2 Inv-loop μ-loop
-loop-less-2 c = search needs
 
 loop-again-2 : tie.Need-loop-again-2 Inv-loop μ-loop
 loop-again-2 c =
@@ -110,15 +92,13 @@ executable-room-spec =
     (tie.spec
     Inv-loop
     μ-loop
-    executable-slots-requires
+    (λ c κs. search needs)
     loop-holds
-    sub-i
-    executable-has-id-requires
+    (λ c. search needs) (λ c κs. search needs)
     returns
-    executable-has-id-requires-2
-    loop-less
+    (λ c κs. search needs) (λ c. search needs)
     loop-again
-    loop-less-2
+    (λ c. search needs)
     loop-again-2
     returns-2
     returns-3)

@@ -18,14 +18,8 @@ Inv-loop s id slots i₀ i = (i ≤ slots) × (slots ≡ length (decode s .execu
 abbrev μ-loop : tie.MeasureT-loop
 μ-loop s id slots i₀ i = slots - i
 
-executable-slots-requires : tie.Need-executable-slots-requires Inv-loop μ-loop
-executable-slots-requires c κs = search needs
-
 loop-holds : tie.Need-loop-holds Inv-loop μ-loop
 loop-holds c = (search needs, search needs, sym (zero-add _))
-
-add-loop : tie.Need-add-loop Inv-loop μ-loop
-add-loop c = search needs
 
 executable-has-id-requires : tie.Need-executable-has-id-requires Inv-loop μ-loop
 executable-has-id-requires c κs = (search needs, omega arith)
@@ -72,53 +66,29 @@ four c =
     let i = turn-4 c .loop .i in
     place-past _ no-executable _ (i + 3) (omega arith) (three (c .before .before)) (omega arith) (sym (c .before .executable-has-id4 .ensures) ∙ c .if4 .left)
 
-add-executable-has-id : tie.Need-add-executable-has-id Inv-loop μ-loop
-add-executable-has-id c = search needs
-
 executable-has-id-requires-2 : tie.Need-executable-has-id-requires-2 Inv-loop μ-loop
 executable-has-id-requires-2 c κs = (search needs, omega arith)
-
-add-t9 : tie.Need-add-t9 Inv-loop μ-loop
-add-t9 c = search needs
 
 returns-2 : tie.Need-returns-2 Inv-loop μ-loop
 returns-2 c =
     let i = c .before .before .before .before .before .loop .i in
     found-here _ _ no-executable (i + 1) (one (c .before .before)) (omega arith) (sym (c .before .executable-has-id2 .ensures) ∙ c .if2 .taken)
 
-add-executable-has-id-2 : tie.Need-add-executable-has-id-2 Inv-loop μ-loop
-add-executable-has-id-2 c = search needs
-
 executable-has-id-requires-3 : tie.Need-executable-has-id-requires-3 Inv-loop μ-loop
 executable-has-id-requires-3 c κs = (search needs, omega arith)
-
-add-t11 : tie.Need-add-t11 Inv-loop μ-loop
-add-t11 c = search needs
 
 returns-3 : tie.Need-returns-3 Inv-loop μ-loop
 returns-3 c =
     let i = turn-2 (c .before .before) .loop .i in
     found-here _ _ no-executable (i + 2) (two (c .before .before)) (omega arith) (sym (c .before .executable-has-id3 .ensures) ∙ c .if3 .taken)
 
-add-executable-has-id-3 : tie.Need-add-executable-has-id-3 Inv-loop μ-loop
-add-executable-has-id-3 c = search needs
-
 executable-has-id-requires-4 : tie.Need-executable-has-id-requires-4 Inv-loop μ-loop
 executable-has-id-requires-4 c κs = (search needs, omega arith)
-
-add-t13 : tie.Need-add-t13 Inv-loop μ-loop
-add-t13 c = search needs
 
 returns-4 : tie.Need-returns-4 Inv-loop μ-loop
 returns-4 c =
     let i = turn-3 (c .before .before) .loop .i in
     found-here _ _ no-executable (i + 3) (three (c .before .before)) (omega arith) (sym (c .before .executable-has-id4 .ensures) ∙ c .if4 .taken)
-
-add-i : tie.Need-add-i Inv-loop μ-loop
-add-i c = search needs
-
-loop-less : tie.Need-loop-less Inv-loop μ-loop
-loop-less c = omega arith
 
 loop-again : tie.Need-loop-again Inv-loop μ-loop
 loop-again c = (omega arith, search needs, four c)
@@ -135,25 +105,24 @@ executable-slot-spec =
     (tie.spec
     Inv-loop
     μ-loop
-    executable-slots-requires
+    (λ c κs. search needs)
     loop-holds
-    add-loop
+    (λ c. search needs)
     executable-has-id-requires
     returns
-    add-executable-has-id
+    (λ c. search needs)
     executable-has-id-requires-2
-    add-t9
+    (λ c. search needs)
     returns-2
-    add-executable-has-id-2
+    (λ c. search needs)
     executable-has-id-requires-3
-    add-t11
+    (λ c. search needs)
     returns-3
-    add-executable-has-id-3
+    (λ c. search needs)
     executable-has-id-requires-4
-    add-t13
+    (λ c. search needs)
     returns-4
-    add-i
-    loop-less
+    (λ c. search needs) (λ c. omega arith)
     loop-again
     executable-from-requires
     returns-5)

@@ -30,20 +30,8 @@ Inv-loop s place slots i₀ i =
 abbrev μ-loop : tie.MeasureT-loop
 μ-loop s place slots i₀ i = slots - i
 
-certificate-slots-requires : tie.Need-certificate-slots-requires Inv-loop μ-loop
-certificate-slots-requires c κs = search needs
-
 loop-holds : tie.Need-loop-holds Inv-loop μ-loop
 loop-holds c = (search needs, search needs, refl)
-
-clock-requires : tie.Need-clock-requires Inv-loop μ-loop
-clock-requires c κs = search needs
-
-certificate-requires : tie.Need-certificate-requires Inv-loop μ-loop
-certificate-requires c κs = search needs
-
-valid-operator-requires : tie.Need-valid-operator-requires Inv-loop μ-loop
-valid-operator-requires c κs = search needs
 
 returns : tie.Need-returns Inv-loop μ-loop
 unfolding has-valid-operator
@@ -53,12 +41,6 @@ returns c =
     let at-clock = ap (λ k. asked k (a .place) (c .before .before .certificate .result)) (sym (c .before .before .before .clock .ensures)) in
     any-stops no-certificate _ (z .loop .i) (asked (decode (a .s .now) .trust .seen .clock) (a .place)) _ (z .loop .inv .2) (omega arith)
     (c .before .before .certificate .ensures) (at-clock ∙ sym (c .before .valid-operator .ensures) ∙ c .if1 .taken)
-
-add-i : tie.Need-add-i Inv-loop μ-loop
-add-i c = search needs
-
-loop-less : tie.Need-loop-less Inv-loop μ-loop
-loop-less c = search needs
 
 loop-again : tie.Need-loop-again Inv-loop μ-loop
 loop-again c =
@@ -82,13 +64,10 @@ has-valid-operator-spec =
     (tie.spec
     Inv-loop
     μ-loop
-    certificate-slots-requires
+    (λ c κs. search needs)
     loop-holds
-    clock-requires
-    certificate-requires
-    valid-operator-requires
+    (λ c κs. search needs) (λ c κs. search needs) (λ c κs. search needs)
     returns
-    add-i
-    loop-less
+    (λ c. search needs) (λ c. search needs)
     loop-again
     returns-2)

@@ -26,14 +26,8 @@ Inv-loop s n cards i₀ i =
 abbrev μ-loop : tie.MeasureT-loop
 μ-loop s n cards i₀ i = cards - i
 
-card-count-requires : tie.Need-card-count-requires Inv-loop μ-loop
-card-count-requires c κs = search needs
-
 loop-holds : tie.Need-loop-holds Inv-loop μ-loop
 loop-holds c = (search needs, search needs, refl)
-
-card-requires : tie.Need-card-requires Inv-loop μ-loop
-card-requires c κs = search needs
 
 returns : tie.Need-returns Inv-loop μ-loop
 unfolding in-card-table
@@ -41,12 +35,6 @@ returns c =
     let z = c .before .before .before .before in
     let f = numbered (z .before .before .before .args .n) in
     any-stops no-card _ (z .loop .i) f _ (z .loop .inv .2) (omega arith) (c .before .before .card .ensures) (eq-eqb _ _ (c .if1 .taken))
-
-add-i : tie.Need-add-i Inv-loop μ-loop
-add-i c = search needs
-
-loop-less : tie.Need-loop-less Inv-loop μ-loop
-loop-less c = search needs
 
 loop-again : tie.Need-loop-again Inv-loop μ-loop
 loop-again c =
@@ -67,11 +55,10 @@ in-card-table-spec =
     (tie.spec
     Inv-loop
     μ-loop
-    card-count-requires
+    (λ c κs. search needs)
     loop-holds
-    card-requires
+    (λ c κs. search needs)
     returns
-    add-i
-    loop-less
+    (λ c. search needs) (λ c. search needs)
     loop-again
     returns-2)

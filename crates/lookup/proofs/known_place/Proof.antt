@@ -8,12 +8,9 @@ returns : tie.Need-returns
 unfolding known-place
 returns c = rw (eq-eqb _ 0 (c .if1 .taken))
 
-in-card-table-requires : tie.Need-in-card-table-requires
-in-card-table-requires c κs = search needs
-
 returns-2 : tie.Need-returns-2
 unfolding known-place
 returns-2 c = rw (ne-eqb _ 0 (c .before .if1 .left)) (c .in-card-table .ensures)
 
 pub known-place-spec : {M : Type 1} → statement M
-known-place-spec = tie.close (tie.spec returns in-card-table-requires returns-2)
+known-place-spec = tie.close (tie.spec returns (λ c κs. search needs) returns-2)

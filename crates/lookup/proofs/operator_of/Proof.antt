@@ -26,14 +26,8 @@ Inv-loop s n cards i₀ i =
 abbrev μ-loop : tie.MeasureT-loop
 μ-loop s n cards i₀ i = cards - i
 
-card-count-requires : tie.Need-card-count-requires Inv-loop μ-loop
-card-count-requires c κs = search needs
-
 loop-holds : tie.Need-loop-holds Inv-loop μ-loop
 loop-holds c = (search needs, search needs, refl)
-
-card-requires : tie.Need-card-requires Inv-loop μ-loop
-card-requires c κs = search needs
 
 returns : tie.Need-returns Inv-loop μ-loop
 unfolding operator-of
@@ -44,12 +38,6 @@ returns c =
     let e = c .before .before .card .ensures in
     let here = find-here no-card (decode (a .s .now) .cards) (z .loop .i) f (omega arith) (ap f (sym e) ∙ eq-eqb _ _ (c .if1 .taken)) in
     ap (λ k. k .operator) (e ∙ sym here ∙ z .loop .inv .2)
-
-add-i : tie.Need-add-i Inv-loop μ-loop
-add-i c = search needs
-
-loop-less : tie.Need-loop-less Inv-loop μ-loop
-loop-less c = search needs
 
 loop-again : tie.Need-loop-again Inv-loop μ-loop
 loop-again c =
@@ -74,11 +62,10 @@ operator-of-spec =
     (tie.spec
     Inv-loop
     μ-loop
-    card-count-requires
+    (λ c κs. search needs)
     loop-holds
-    card-requires
+    (λ c κs. search needs)
     returns
-    add-i
-    loop-less
+    (λ c. search needs) (λ c. search needs)
     loop-again
     returns-2)

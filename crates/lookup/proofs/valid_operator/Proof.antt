@@ -5,9 +5,6 @@ use borrow.Author.Needs.{needs}
 use Rattle.lookup.proofs.valid_operator.Statement.{statement}
 use Rattle.lookup.proofs.valid_operator.Tie as tie
 
-valid-in-requires : tie.Need-valid-in-requires
-valid-in-requires c κs = search needs
-
 -- a record that is not valid in the domain, and one that is
 no-valid : (a b : Bool) → a ≡ false → false ≡ (a && b)
 no-valid a b h = ap (λ x. x && b) (sym h)
@@ -22,4 +19,4 @@ returns-2 : tie.Need-returns-2
 returns-2 c = a-valid _ _ (sym (c .before .before .valid-in .ensures) ∙ not-false _ (c .before .if1 .left))
 
 pub valid-operator-spec : {M : Type 1} → statement M
-valid-operator-spec = tie.close (tie.spec valid-in-requires returns returns-2)
+valid-operator-spec = tie.close (tie.spec (λ c κs. search needs) returns returns-2)

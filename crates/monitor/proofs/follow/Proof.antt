@@ -25,12 +25,6 @@ tell-requires c κs =
     let r = c .before .before .before .before .before .before .loop .inv .2 .room in
     omega arith
 
-add-i : tie.Need-add-i Inv-loop μ-loop
-add-i c = search needs
-
-loop-less : tie.Need-loop-less Inv-loop μ-loop
-loop-less c = search needs
-
 loop-again : tie.Need-loop-again Inv-loop μ-loop
 loop-again c =
     let stepped = c .before .before .before .before .before .before in
@@ -56,8 +50,7 @@ follow-spec =
     loop-holds
     one-requires
     tell-requires
-    add-i
-    loop-less
+    (λ c. search needs) (λ c. search needs)
     loop-again
     same-length
     same-length-2

@@ -3,17 +3,5 @@ use borrow.Author.Needs.{needs}
 use Rattle.monitor.proofs.monitor_step.Statement.{statement}
 use Rattle.monitor.proofs.monitor_step.Tie as tie
 
-step-requires : tie.Need-step-requires
-step-requires c κs = search needs
-
-pack-requires : tie.Need-pack-requires
-pack-requires c κs = search needs
-
-same-length : tie.Need-same-length
-same-length c = search needs
-
-returns : tie.Need-returns
-returns c = search (needs, packed-stepped)
-
 pub monitor-step-spec : {M : Type 1} → statement M
-monitor-step-spec = tie.close (tie.spec step-requires pack-requires same-length returns)
+monitor-step-spec = tie.close (tie.spec (λ c κs. search needs) (λ c κs. search needs) (λ c. search needs) (λ c. search (needs, packed-stepped)))

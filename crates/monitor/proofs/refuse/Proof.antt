@@ -19,12 +19,6 @@ tell-requires c κs =
     let r = c .before .before .loop .inv .room in
     omega arith
 
-add-i : tie.Need-add-i Inv-loop μ-loop
-add-i c = search needs
-
-loop-less : tie.Need-loop-less Inv-loop μ-loop
-loop-less c = search needs
-
 loop-again : tie.Need-loop-again Inv-loop μ-loop
 loop-again c = untold-less _ _ _ _ _ (c .before .before .before .before .before .loop .inv) (omega arith) (search needs) _ (c .before .before .tell .ensures)
 
@@ -42,8 +36,7 @@ refuse-spec =
     μ-loop
     loop-holds
     tell-requires
-    add-i
-    loop-less
+    (λ c. search needs) (λ c. search needs)
     loop-again
     same-length
     returns)

@@ -20,27 +20,12 @@ abbrev μ-loop : tie.MeasureT-loop
 loop-holds : tie.Need-loop-holds Inv-loop μ-loop
 loop-holds c = (search needs, search needs, sym (put-none _ _))
 
-add-store : tie.Need-add-store Inv-loop μ-loop
-add-store c = omega arith
-
-store-requires : tie.Need-store-requires Inv-loop μ-loop
-store-requires c κs = omega arith
-
-add-k : tie.Need-add-k Inv-loop μ-loop
-add-k c = omega arith
-
-loop-less : tie.Need-loop-less Inv-loop μ-loop
-loop-less c = omega arith
-
 loop-again : tie.Need-loop-again Inv-loop μ-loop
 loop-again c =
     let w = c .before .before in
     let v = w .before .before .before in
     let a = v .before .before .args in
     (omega arith, omega arith, zeros-next (a .s .now) (a .i) (v .loop .k) (v .loop .inv .2) (w .store .ensures) (omega arith))
-
-same-length : tie.Need-same-length Inv-loop μ-loop
-same-length c = omega arith
 
 returns : tie.Need-returns Inv-loop μ-loop
 returns c =
@@ -56,10 +41,7 @@ clear-spec =
     Inv-loop
     μ-loop
     loop-holds
-    add-store
-    store-requires
-    add-k
-    loop-less
+    (λ c. omega arith) (λ c κs. omega arith) (λ c. omega arith) (λ c. omega arith)
     loop-again
-    same-length
+    (λ c. omega arith)
     returns)

@@ -6,13 +6,10 @@ use Rattle.octets.proofs.read8.Reads as reads
 use Rattle.octets.proofs.read8.Lts as lts
 
 -- src/lib.rt:24:5
-shared-slice-read-result : tie.Need-shared-slice-read-result
-shared-slice-read-result c = search needs
-
 -- src/lib.rt:20:1
 returns : tie.Need-returns
 unfolding be
 returns c = search needs
 
 pub read8-spec : {M : Type 1} → statement M
-read8-spec = tie.close (tie.spec shared-slice-read-result returns)
+read8-spec = tie.close (tie.spec (λ c. search needs) returns)

@@ -8,24 +8,6 @@ use Rattle.octets.proofs.write16.Reads as reads
 use Rattle.octets.proofs.write16.Lts as lts
 use Rattle.octets.proofs.store.Reads as store-reads
 
-cast-store : tie.Need-cast-store
-cast-store c = search needs
-
-store-requires : tie.Need-store-requires
-store-requires c κs = search needs
-
-add-store : tie.Need-add-store
-add-store c = search needs
-
-cast-store-2 : tie.Need-cast-store-2
-cast-store-2 c = search needs
-
-store-requires-2 : tie.Need-store-requires-2
-store-requires-2 c κs = search needs
-
-same-length : tie.Need-same-length
-same-length c = search needs
-
 returns : tie.Need-returns
 returns c =
     let w2 = c .before .before in
@@ -36,10 +18,6 @@ pub write16-spec : {M : Type 1} → statement M
 write16-spec =
     tie.close
     (tie.spec
-    cast-store
-    store-requires
-    add-store
-    cast-store-2
-    store-requires-2
-    same-length
+    (λ c. search needs) (λ c κs. search needs) (λ c. search needs) (λ c. search needs) (λ c κs. search needs)
+    (λ c. search needs)
     returns)

@@ -4,17 +4,11 @@ use borrow.Author.Needs.{needs}
 use Rattle.opening.proofs.at_card.Statement.{statement}
 use Rattle.opening.proofs.at_card.Tie as tie
 
-card-count-requires : tie.Need-card-count-requires
-card-count-requires c κs = search needs
-
 returns : tie.Need-returns
 returns c = there _ _ (c .before .card-count .ensures .0) (c .if1 .taken)
-
-no-fault-requires : tie.Need-no-fault-requires
-no-fault-requires c κs = search needs
 
 returns-2 : tie.Need-returns-2
 returns-2 c = c .no-fault .ensures ∙ nowhere _ _ (c .before .before .card-count .ensures .0) (c .before .if1 .left)
 
 pub at-card-spec : {M : Type 1} → statement M
-at-card-spec = tie.close (tie.spec card-count-requires returns no-fault-requires returns-2)
+at-card-spec = tie.close (tie.spec (λ c κs. search needs) returns (λ c κs. search needs) returns-2)

@@ -4,17 +4,11 @@ use borrow.Author.Needs.{needs}
 use Rattle.opening.proofs.at_row.Statement.{statement}
 use Rattle.opening.proofs.at_row.Tie as tie
 
-action-count-requires : tie.Need-action-count-requires
-action-count-requires c κs = search needs
-
 returns : tie.Need-returns
 returns c = there _ _ (c .before .action-count .ensures .0) (c .if1 .taken)
-
-no-fault-requires : tie.Need-no-fault-requires
-no-fault-requires c κs = search needs
 
 returns-2 : tie.Need-returns-2
 returns-2 c = c .no-fault .ensures ∙ nowhere _ _ (c .before .before .action-count .ensures .0) (c .before .if1 .left)
 
 pub at-row-spec : {M : Type 1} → statement M
-at-row-spec = tie.close (tie.spec action-count-requires returns no-fault-requires returns-2)
+at-row-spec = tie.close (tie.spec (λ c κs. search needs) returns (λ c κs. search needs) returns-2)

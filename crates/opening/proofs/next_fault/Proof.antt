@@ -3,30 +3,6 @@ use borrow.Author.Needs.{needs}
 use Rattle.opening.proofs.next_fault.Statement.{statement}
 use Rattle.opening.proofs.next_fault.Tie as tie
 
-i2-requires : tie.Need-i2-requires
-i2-requires c κs = search needs
-
-returns : tie.Need-returns
-returns c = search (breaks-i2)
-
-i3-requires : tie.Need-i3-requires
-i3-requires c κs = search needs
-
-returns-2 : tie.Need-returns-2
-returns-2 c = search (breaks-i3, keeps-i2)
-
-i4-requires : tie.Need-i4-requires
-i4-requires c κs = search needs
-
-returns-3 : tie.Need-returns-3
-returns-3 c = search (breaks-i4, keeps-i2, keeps-i3)
-
-i5-requires : tie.Need-i5-requires
-i5-requires c κs = search needs
-
-returns-4 : tie.Need-returns-4
-returns-4 c = search (breaks-i5, keeps-i2, keeps-i3, keeps-i4)
-
 last-fault-requires : tie.Need-last-fault-requires
 last-fault-requires c κs =
     let c3 = c .before .before .before in
@@ -45,13 +21,9 @@ pub next-fault-spec : {M : Type 1} → statement M
 next-fault-spec =
     tie.close
     (tie.spec
-    i2-requires
-    returns
-    i3-requires
-    returns-2
-    i4-requires
-    returns-3
-    i5-requires
-    returns-4
+    (λ c κs. search needs) (λ c. search (breaks-i2))
+    (λ c κs. search needs) (λ c. search (breaks-i3, keeps-i2))
+    (λ c κs. search needs) (λ c. search (breaks-i4, keeps-i2, keeps-i3))
+    (λ c κs. search needs) (λ c. search (breaks-i5, keeps-i2, keeps-i3, keeps-i4))
     last-fault-requires
     returns-5)

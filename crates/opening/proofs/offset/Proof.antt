@@ -10,42 +10,24 @@ use Rattle.opening.proofs.offset.Tie as tie
 bytes : (c : tie.After-shared-slice-known) → Bytes (c .before .args .s .now)
 bytes c i = omega (arith, c .shared-slice-known .given i)
 
-enum-known-site : tie.Need-enum-known-site
-enum-known-site c = search needs
-
 cast-result : tie.Need-cast-result
 cast-result c = omega (arith, within _ (c .before .before .before .before .pre) (c .before .site .given .1))
-
-enum-known-site-2 : tie.Need-enum-known-site-2
-enum-known-site-2 c = search needs
 
 certificate-offset-requires : tie.Need-certificate-offset-requires
 certificate-offset-requires c κs =
     there _ (bytes (c .before .before .before)) (within _ (c .before .before .before .before .pre) (c .before .site2 .given .1))
 
-enum-known-site-3 : tie.Need-enum-known-site-3
-enum-known-site-3 c = search needs
-
 card-offset-requires : tie.Need-card-offset-requires
 card-offset-requires c κs =
     there _ (bytes (c .before .before .before)) (within _ (c .before .before .before .before .pre) (c .before .site3 .given .1))
-
-enum-known-site-4 : tie.Need-enum-known-site-4
-enum-known-site-4 c = search needs
 
 executable-offset-requires : tie.Need-executable-offset-requires
 executable-offset-requires c κs =
     there _ (bytes (c .before .before .before)) (within _ (c .before .before .before .before .pre) (c .before .site4 .given .1))
 
-enum-known-site-5 : tie.Need-enum-known-site-5
-enum-known-site-5 c = search needs
-
 row-offset-requires : tie.Need-row-offset-requires
 row-offset-requires c κs =
     there _ (bytes (c .before .before .before)) (within _ (c .before .before .before .before .pre) (c .before .site5 .given .1))
-
-returns : tie.Need-returns
-returns c = search needs
 
 returns-2 : tie.Need-returns-2
 returns-2 c = c .certificate-offset .ensures ∙ stands _ (c .before .before .before .before .before .pre) (c .before .before .site2 .given .1)
@@ -63,17 +45,17 @@ pub offset-spec : {M : Type 1} → statement M
 offset-spec =
     tie.close
     (tie.spec
-    enum-known-site
+    (λ c. search needs)
     cast-result
-    enum-known-site-2
+    (λ c. search needs)
     certificate-offset-requires
-    enum-known-site-3
+    (λ c. search needs)
     card-offset-requires
-    enum-known-site-4
+    (λ c. search needs)
     executable-offset-requires
-    enum-known-site-5
+    (λ c. search needs)
     row-offset-requires
-    returns
+    (λ c. search needs)
     returns-2
     returns-3
     returns-4

@@ -4,15 +4,6 @@ use borrow.Author.Needs.{needs}
 use Rattle.opening.proofs.open.Statement.{statement}
 use Rattle.opening.proofs.open.Tie as tie
 
-is-framed-requires : tie.Need-is-framed-requires
-is-framed-requires c κs = search needs
-
-header-fault-requires : tie.Need-header-fault-requires
-header-fault-requires c κs = search needs
-
-returns : tie.Need-returns
-returns c = search breaks-i1
-
 next-fault-requires : tie.Need-next-fault-requires
 next-fault-requires c κs =
     let bytes = c .before .before .shared-slice-known .given in
@@ -24,4 +15,4 @@ returns-2 c = c .next-fault .ensures
 pub open-spec : {M : Type 1} → statement M
 open-spec =
     tie.close
-    (tie.spec is-framed-requires header-fault-requires returns next-fault-requires returns-2)
+    (tie.spec (λ c κs. search needs) (λ c κs. search needs) (λ c. search breaks-i1) next-fault-requires returns-2)

@@ -3,11 +3,8 @@ use borrow.Author.Needs.{needs}
 use Rattle.opening.proofs.refused_at.Statement.{statement}
 use Rattle.opening.proofs.refused_at.Tie as tie
 
-offset-requires : tie.Need-offset-requires
-offset-requires c κs = search needs
-
 returns : tie.Need-returns
 returns c = refuses _ (c .before .before .pre) (c .offset .ensures)
 
 pub refused-at-spec : {M : Type 1} → statement M
-refused-at-spec = tie.close (tie.spec offset-requires returns)
+refused-at-spec = tie.close (tie.spec (λ c κs. search needs) returns)

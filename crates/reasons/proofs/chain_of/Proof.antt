@@ -4,28 +4,13 @@ use borrow.Author.Needs.{needs}
 use Rattle.reasons.proofs.chain_of.Statement.{statement}
 use Rattle.reasons.proofs.chain_of.Tie as tie
 
-chained-requires : tie.Need-chained-requires
-chained-requires c κs = search needs
-
 returns : tie.Need-returns
 returns c = c .chained .ensures ∙ unsigned-chain _ _ (c .before .if1 .taken)
-
-links-of-requires : tie.Need-links-of-requires
-links-of-requires c κs = search needs
-
-chained-requires-2 : tie.Need-chained-requires-2
-chained-requires-2 c κs = search needs
 
 returns-2 : tie.Need-returns-2
 returns-2 c =
     let a = c .before .before in
     c .chained2 .ensures ∙ operator-chain _ _ (a .before .if1 .left) (a .links-of .ensures) (c .before .if2 .taken)
-
-links-of-requires-2 : tie.Need-links-of-requires-2
-links-of-requires-2 c κs = search needs
-
-chained-requires-3 : tie.Need-chained-requires-3
-chained-requires-3 c κs = search needs
 
 returns-3 : tie.Need-returns-3
 returns-3 c =
@@ -33,12 +18,6 @@ returns-3 c =
     let a = b .before .before in
     c .chained3 .ensures
     ∙ manufacturer-chain _ _ (a .before .if1 .left) (a .links-of .ensures) (b .before .if2 .left) (b .links-of2 .ensures) (c .before .if3 .taken)
-
-links-of-requires-3 : tie.Need-links-of-requires-3
-links-of-requires-3 c κs = search needs
-
-chained-requires-4 : tie.Need-chained-requires-4
-chained-requires-4 c κs = search needs
 
 returns-4 : tie.Need-returns-4
 returns-4 c =
@@ -48,9 +27,6 @@ returns-4 c =
     c .chained4 .ensures
     ∙ third-party-chain _ _ (a .before .if1 .left) (a .links-of .ensures) (b .before .if2 .left) (b .links-of2 .ensures) (d .before .if3 .left)
     (d .links-of3 .ensures) (c .before .if4 .taken)
-
-chained-requires-5 : tie.Need-chained-requires-5
-chained-requires-5 c κs = search needs
 
 returns-5 : tie.Need-returns-5
 returns-5 c =
@@ -65,16 +41,13 @@ pub chain-of-spec : {M : Type 1} → statement M
 chain-of-spec =
     tie.close
     (tie.spec
-    chained-requires
+    (λ c κs. search needs)
     returns
-    links-of-requires
-    chained-requires-2
+    (λ c κs. search needs) (λ c κs. search needs)
     returns-2
-    links-of-requires-2
-    chained-requires-3
+    (λ c κs. search needs) (λ c κs. search needs)
     returns-3
-    links-of-requires-3
-    chained-requires-4
+    (λ c κs. search needs) (λ c κs. search needs)
     returns-4
-    chained-requires-5
+    (λ c κs. search needs)
     returns-5)

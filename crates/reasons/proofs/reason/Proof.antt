@@ -5,9 +5,6 @@ use borrow.Author.Needs.{needs}
 use Rattle.reasons.proofs.reason.Statement.{statement}
 use Rattle.reasons.proofs.reason.Tie as tie
 
-is-present-requires : tie.Need-is-present-requires
-is-present-requires c κs = search needs
-
 returns : tie.Need-returns
 unfolding reason
 returns c = takes _ _ _ (not-is (c .before .is-present .ensures) (c .if1 .taken))
@@ -26,9 +23,6 @@ returns-3 c =
     skips _ _ _ (not-is (one .before .is-present .ensures) (one .if1 .left))
     (skips _ _ _ (ne-eqb _ _ (two .if2 .left)) (takes _ _ _ (eq-eqb _ _ (c .if3 .taken))))
 
-is-current-requires : tie.Need-is-current-requires
-is-current-requires c κs = search needs
-
 returns-4 : tie.Need-returns-4
 unfolding reason
 returns-4 c =
@@ -38,9 +32,6 @@ returns-4 c =
     skips _ _ _ (not-is (one .before .is-present .ensures) (one .if1 .left))
     (skips _ _ _ (ne-eqb _ _ (two .if2 .left)) (skips _ _ _ (ne-eqb _ _ (three .if3 .left))
     (takes _ _ _ (not-is (c .before .is-current .ensures) (c .if4 .taken)))))
-
-is-served-requires : tie.Need-is-served-requires
-is-served-requires c κs = search needs
 
 returns-5 : tie.Need-returns-5
 unfolding reason
@@ -68,12 +59,12 @@ pub reason-spec : {M : Type 1} → statement M
 reason-spec =
     tie.close
     (tie.spec
-    is-present-requires
+    (λ c κs. search needs)
     returns
     returns-2
     returns-3
-    is-current-requires
+    (λ c κs. search needs)
     returns-4
-    is-served-requires
+    (λ c κs. search needs)
     returns-5
     returns-6)

@@ -22,17 +22,11 @@ placed c = c .before .before .before .before .before
 abbrev linked : tie.After-put-text → tie.After-put-column4
 linked c = c .before .before .before .before .before
 
-put-number-requires : tie.Need-put-number-requires
-put-number-requires c κs = search needs
-
 put-column-requires : tie.Need-put-column-requires
 put-column-requires c κs =
     let to-number = c .before .before .before in
     let number = number-ends _ _ (to-number .put-number .ensures .1) in
     omega arith
-
-cast-put-column : tie.Need-cast-put-column
-cast-put-column c = search needs
 
 put-column-requires-2 : tie.Need-put-column-requires-2
 put-column-requires-2 c κs =
@@ -41,9 +35,6 @@ put-column-requires-2 c κs =
     let number = number-ends _ _ (to-number .put-number .ensures .1) in
     let kind = column-ends _ _ (to-kind .put-column .ensures .1) in
     omega arith
-
-cast-put-column-2 : tie.Need-cast-put-column-2
-cast-put-column-2 c = search needs
 
 put-column-requires-3 : tie.Need-put-column-requires-3
 put-column-requires-3 c κs =
@@ -54,9 +45,6 @@ put-column-requires-3 c κs =
     let kind = column-ends _ _ (to-kind .put-column .ensures .1) in
     let code = column-ends _ _ (to-code .put-column2 .ensures .1) in
     omega arith
-
-cast-put-column-3 : tie.Need-cast-put-column-3
-cast-put-column-3 c = search needs
 
 put-column-requires-4 : tie.Need-put-column-requires-4
 put-column-requires-4 c κs =
@@ -69,9 +57,6 @@ put-column-requires-4 c κs =
     let code = column-ends _ _ (to-code .put-column2 .ensures .1) in
     let domain = column-ends _ _ (to-domain .put-column3 .ensures .1) in
     omega arith
-
-slice-aggregate-put-text : tie.Need-slice-aggregate-put-text
-slice-aggregate-put-text c = search needs
 
 put-text-requires : tie.Need-put-text-requires
 put-text-requires c κs =
@@ -101,9 +86,6 @@ add-result c =
     let links = column-ends _ _ (to-links .put-column4 .ensures .1) in
     omega arith
 
-same-length : tie.Need-same-length
-same-length c = search needs
-
 returns : tie.Need-returns
 returns c =
     let to-links = linked (c .before .before) in
@@ -119,16 +101,16 @@ pub put-line-spec : {M : Type 1} → statement M
 put-line-spec =
     tie.close
     (tie.spec
-    put-number-requires
+    (λ c κs. search needs)
     put-column-requires
-    cast-put-column
+    (λ c. search needs)
     put-column-requires-2
-    cast-put-column-2
+    (λ c. search needs)
     put-column-requires-3
-    cast-put-column-3
+    (λ c. search needs)
     put-column-requires-4
-    slice-aggregate-put-text
+    (λ c. search needs)
     put-text-requires
     add-result
-    same-length
+    (λ c. search needs)
     returns)

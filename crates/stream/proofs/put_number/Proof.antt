@@ -9,15 +9,6 @@ use Rattle.stream.proofs.Texts.{decimal-is, fewest-small}
 use Rattle.stream.proofs.put_number.Statement.{statement}
 use Rattle.stream.proofs.put_number.Tie as tie
 
-decimal-requires : tie.Need-decimal-requires
-decimal-requires c κs = search needs
-
-array-share-prefix-digits : tie.Need-array-share-prefix-digits
-array-share-prefix-digits c = search needs
-
-slice-aggregate-put-text : tie.Need-slice-aggregate-put-text
-slice-aggregate-put-text c = search needs
-
 put-text-requires : tie.Need-put-text-requires
 put-text-requires c κs =
     let d = c .before .before .decimal .ensures in
@@ -28,9 +19,6 @@ add-result c =
     let written = c .before .before .before .before .before in
     let a = written .before .before .before .args in
     omega (arith, fewest-small _ (a .n) (written .decimal .ensures .1 .0) (omega arith))
-
-same-length : tie.Need-same-length
-same-length c = search needs
 
 returns : tie.Need-returns
 returns c =
@@ -45,10 +33,8 @@ pub put-number-spec : {M : Type 1} → statement M
 put-number-spec =
     tie.close
     (tie.spec
-    decimal-requires
-    array-share-prefix-digits
-    slice-aggregate-put-text
+    (λ c κs. search needs) (λ c. search needs) (λ c. search needs)
     put-text-requires
     add-result
-    same-length
+    (λ c. search needs)
     returns)

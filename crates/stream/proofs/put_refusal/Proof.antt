@@ -12,22 +12,10 @@ placed c = c .before .before .before .before .before
 abbrev ruled : tie.After-put-column2 → tie.After-put-column
 ruled c = c .before .before .before .before
 
-slice-aggregate-put-text : tie.Need-slice-aggregate-put-text
-slice-aggregate-put-text c = search needs
-
-put-text-requires : tie.Need-put-text-requires
-put-text-requires c κs = search needs
-
-put-column-requires : tie.Need-put-column-requires
-put-column-requires c κs = search needs
-
 put-column-requires-2 : tie.Need-put-column-requires-2
 put-column-requires-2 c κs =
     let to-rule = c .before .before .before in
     omega (arith, column-ends _ _ (to-rule .put-column .ensures .1))
-
-slice-aggregate-put-text-2 : tie.Need-slice-aggregate-put-text-2
-slice-aggregate-put-text-2 c = search needs
 
 put-text-requires-2 : tie.Need-put-text-requires-2
 put-text-requires-2 c κs =
@@ -40,9 +28,6 @@ add-result c =
     let to-offset = placed (c .before .before) in
     let to-rule = ruled to-offset in
     omega (arith, column-ends _ _ (to-rule .put-column .ensures .1), column-ends _ _ (to-offset .put-column2 .ensures .1))
-
-same-length : tie.Need-same-length
-same-length c = search needs
 
 returns : tie.Need-returns
 returns c =
@@ -57,12 +42,10 @@ pub put-refusal-spec : {M : Type 1} → statement M
 put-refusal-spec =
     tie.close
     (tie.spec
-    slice-aggregate-put-text
-    put-text-requires
-    put-column-requires
+    (λ c. search needs) (λ c κs. search needs) (λ c κs. search needs)
     put-column-requires-2
-    slice-aggregate-put-text-2
+    (λ c. search needs)
     put-text-requires-2
     add-result
-    same-length
+    (λ c. search needs)
     returns)

@@ -7,15 +7,9 @@ use borrow.Author.Needs.{needs}
 use Rattle.terms.proofs.executable_fits.Statement.{statement}
 use Rattle.terms.proofs.executable_fits.Tie as tie
 
-cast-result : tie.Need-cast-result
-cast-result c = search needs
-
-shl-result : tie.Need-shl-result
-shl-result c = search needs
-
 returns : tie.Need-returns
 unfolding executable-fits
 returns c = rw (shl-exact 1 (c .before .before .before .args .actions) 64 (lit< tt) (omega arith), one-mul)
 
 pub executable-fits-spec : {M : Type 1} → statement M
-executable-fits-spec = tie.close (tie.spec cast-result shl-result returns)
+executable-fits-spec = tie.close (tie.spec (λ c. search needs) (λ c. search needs) returns)

@@ -3,18 +3,12 @@ use borrow.Author.Needs.{needs}
 use Rattle.terms.proofs.executable_slot_fits.Statement.{statement}
 use Rattle.terms.proofs.executable_slot_fits.Tie as tie
 
-zero-executable-requires : tie.Need-zero-executable-requires
-zero-executable-requires c κs = search needs
-
 returns : tie.Need-returns
 returns c = rw (eq-eqb _ 0 (c .before .if1 .taken)) (c .zero-executable .ensures)
-
-executable-fits-requires : tie.Need-executable-fits-requires
-executable-fits-requires c κs = search needs
 
 returns-2 : tie.Need-returns-2
 returns-2 c = rw (ne-eqb _ 0 (c .before .if1 .left)) (c .executable-fits .ensures)
 
 pub executable-slot-fits-spec : {M : Type 1} → statement M
 executable-slot-fits-spec =
-    tie.close (tie.spec zero-executable-requires returns executable-fits-requires returns-2)
+    tie.close (tie.spec (λ c κs. search needs) returns (λ c κs. search needs) returns-2)

@@ -3,18 +3,12 @@ use borrow.Author.Needs.{needs}
 use Rattle.terms.proofs.slot_fits.Statement.{statement}
 use Rattle.terms.proofs.slot_fits.Tie as tie
 
-zero-certificate-requires : tie.Need-zero-certificate-requires
-zero-certificate-requires c κs = search needs
-
 returns : tie.Need-returns
 returns c = rw (eq-eqb _ 0 (c .before .if1 .taken)) (c .zero-certificate .ensures)
-
-certificate-fits-requires : tie.Need-certificate-fits-requires
-certificate-fits-requires c κs = search needs
 
 returns-2 : tie.Need-returns-2
 returns-2 c = rw (ne-eqb _ 0 (c .before .if1 .left)) (c .certificate-fits .ensures)
 
 pub slot-fits-spec : {M : Type 1} → statement M
 slot-fits-spec =
-    tie.close (tie.spec zero-certificate-requires returns certificate-fits-requires returns-2)
+    tie.close (tie.spec (λ c κs. search needs) returns (λ c κs. search needs) returns-2)

@@ -3,12 +3,9 @@ use borrow.Author.Needs.{needs}
 use Rattle.terms.proofs.valid_in.Statement.{statement}
 use Rattle.terms.proofs.valid_in.Tie as tie
 
-valid-root-requires : tie.Need-valid-root-requires
-valid-root-requires c κs = search needs
-
 returns : tie.Need-returns
 unfolding valid-in
 returns c = cc
 
 pub valid-in-spec : {M : Type 1} → statement M
-valid-in-spec = tie.close (tie.spec valid-root-requires returns)
+valid-in-spec = tie.close (tie.spec (λ c κs. search needs) returns)

@@ -6,12 +6,6 @@ use borrow.Author.Needs.{needs}
 use Rattle.why.proofs.is_unknown.Statement.{statement}
 use Rattle.why.proofs.is_unknown.Tie as tie
 
-slice-aggregate-explain : tie.Need-slice-aggregate-explain
-slice-aggregate-explain c = search needs
-
-explain-requires : tie.Need-explain-requires
-explain-requires c κs = search needs
-
 returns : tie.Need-returns
 returns c =
     let told = c .before .before in
@@ -19,4 +13,4 @@ returns c =
     ap (λ (n : ℕ). eqb n 3) (code-told (a .s .now) (a .id) (told .explain .ensures .answer))
 
 pub is-unknown-spec : {M : Type 1} → statement M
-is-unknown-spec = tie.close (tie.spec slice-aggregate-explain explain-requires returns)
+is-unknown-spec = tie.close (tie.spec (λ c. search needs) (λ c κs. search needs) returns)

@@ -23,9 +23,6 @@ returns-2 c = number-long (c .before .before .args .word .now) (omega arith)
 loop-holds : tie.Need-loop-holds Inv-loop μ-loop
 loop-holds c = (omega arith, omega arith, omega arith, number-read (c .before .before .args .word .now) (omega arith) (omega arith))
 
-shared-slice-read-b : tie.Need-shared-slice-read-b Inv-loop μ-loop
-shared-slice-read-b c = omega arith
-
 returns-3 : tie.Need-returns-3 Inv-loop μ-loop
 returns-3 c =
     let v = c .before .before .before .loop in
@@ -44,19 +41,10 @@ mul-n c =
     let v = c .before .before .before .before .loop in
     omega (arith, few-places (v .n) (v .i) (v .inv .2) (omega arith))
 
-cast-n : tie.Need-cast-n Inv-loop μ-loop
-cast-n c = omega arith
-
 add-n : tie.Need-add-n Inv-loop μ-loop
 add-n c =
     let v = c .before .before .before .before .loop in
     omega (arith, few-places (v .n) (v .i) (v .inv .2) (omega arith))
-
-add-i : tie.Need-add-i Inv-loop μ-loop
-add-i c = omega arith
-
-loop-less : tie.Need-loop-less Inv-loop μ-loop
-loop-less c = omega arith
 
 loop-again : tie.Need-loop-again Inv-loop μ-loop
 loop-again c =
@@ -85,13 +73,12 @@ parse-spec =
     returns
     returns-2
     loop-holds
-    shared-slice-read-b
+    (λ c. omega arith)
     returns-3
     returns-4
     mul-n
-    cast-n
+    (λ c. omega arith)
     add-n
-    add-i
-    loop-less
+    (λ c. omega arith) (λ c. omega arith)
     loop-again
     returns-5)

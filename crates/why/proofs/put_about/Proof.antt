@@ -6,15 +6,6 @@ use borrow.Author.Needs.{needs}
 use Rattle.why.proofs.put_about.Statement.{statement}
 use Rattle.why.proofs.put_about.Tie as tie
 
-put-text-requires : tie.Need-put-text-requires
-put-text-requires c κs = search needs
-
-add-put-number : tie.Need-add-put-number
-add-put-number c = search needs
-
-put-number-requires : tie.Need-put-number-requires
-put-number-requires c κs = search needs
-
 -- the states behind the number, behind the words before it and at the start, from that behind the next
 abbrev numbered : tie.After-put-text2 → tie.After-put-number
 numbered c = c .before .before .before .before
@@ -27,9 +18,6 @@ put-text-requires-2 c κs = omega (arith, number-ends _ _ (c .before .before .be
 
 add-result : tie.Need-add-result
 add-result c = omega (arith, number-ends _ _ (numbered (c .before .before) .put-number .ensures .1))
-
-same-length : tie.Need-same-length
-same-length c = search needs
 
 returns : tie.Need-returns
 returns c =
@@ -44,10 +32,8 @@ pub put-about-spec : {M : Type 1} → statement M
 put-about-spec =
     tie.close
     (tie.spec
-    put-text-requires
-    add-put-number
-    put-number-requires
+    (λ c κs. search needs) (λ c. search needs) (λ c κs. search needs)
     put-text-requires-2
     add-result
-    same-length
+    (λ c. search needs)
     returns)

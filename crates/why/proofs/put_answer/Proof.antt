@@ -4,30 +4,12 @@ use borrow.Author.Needs.{needs}
 use Rattle.why.proofs.put_answer.Statement.{statement}
 use Rattle.why.proofs.put_answer.Tie as tie
 
-slice-aggregate-explain : tie.Need-slice-aggregate-explain
-slice-aggregate-explain c = search needs
-
-explain-requires : tie.Need-explain-requires
-explain-requires c κs = search needs
-
-put-refusal-requires : tie.Need-put-refusal-requires
-put-refusal-requires c κs = search needs
-
-same-length : tie.Need-same-length
-same-length c = search needs
-
 returns : tie.Need-returns
 returns c =
     let test = c .before .before .before .before in
     let told = test .before .before .before in
     let a = told .before .before .before .before .args in
     said-first (a .out .now) (text-refused (a .s .now) (a .id) (told .explain .ensures .answer) (test .if1 .taken)) (c .before .before .put-refusal .ensures)
-
-put-unknown-requires : tie.Need-put-unknown-requires
-put-unknown-requires c κs = search needs
-
-same-length-2 : tie.Need-same-length-2
-same-length-2 c = search needs
 
 returns-2 : tie.Need-returns-2
 returns-2 c =
@@ -36,9 +18,6 @@ returns-2 c =
     let a = told .before .before .before .before .args in
     said-first (a .out .now) (text-unknown (a .s .now) (a .id) (told .explain .ensures .answer) (test .if2 .taken)) (c .before .before .put-unknown .ensures)
 
-slice-aggregate-put-page : tie.Need-slice-aggregate-put-page
-slice-aggregate-put-page c = search needs
-
 put-page-requires : tie.Need-put-page-requires
 put-page-requires c κs =
     let known = c .before .before in
@@ -46,9 +25,6 @@ put-page-requires c κs =
     let a = told .before .before .before .before .args in
     let few = lines-told (a .s .now) (a .id) (told .explain .ensures .answer) in
     (omega (arith, few), omega (arith, few))
-
-same-length-3 : tie.Need-same-length-3
-same-length-3 c = search needs
 
 returns-3 : tie.Need-returns-3
 returns-3 c =
@@ -64,15 +40,11 @@ pub put-answer-spec : {M : Type 1} → statement M
 put-answer-spec =
     tie.close
     (tie.spec
-    slice-aggregate-explain
-    explain-requires
-    put-refusal-requires
-    same-length
+    (λ c. search needs) (λ c κs. search needs) (λ c κs. search needs) (λ c. search needs)
     returns
-    put-unknown-requires
-    same-length-2
+    (λ c κs. search needs) (λ c. search needs)
     returns-2
-    slice-aggregate-put-page
+    (λ c. search needs)
     put-page-requires
-    same-length-3
+    (λ c. search needs)
     returns-3)

@@ -6,47 +6,17 @@ use borrow.Author.Needs.{needs}
 use Rattle.why.proofs.put_link.Statement.{statement}
 use Rattle.why.proofs.put_link.Tie as tie
 
-slice-aggregate-put-about : tie.Need-slice-aggregate-put-about
-slice-aggregate-put-about c = search needs
-
-slice-aggregate-put-about-2 : tie.Need-slice-aggregate-put-about-2
-slice-aggregate-put-about-2 c = search needs
-
-put-about-requires : tie.Need-put-about-requires
-put-about-requires c κs = search needs
-
-same-length : tie.Need-same-length
-same-length c = search needs
-
 returns : tie.Need-returns
 returns c =
     let test = c .before .before .before .before .before .before in
     let a = test .before .before .args in
     said (a .out .now) (a .at) (link-first (a .above) (a .id) (test .if1 .taken)) (c .before .before .put-about .ensures)
 
-slice-aggregate-put-about-3 : tie.Need-slice-aggregate-put-about-3
-slice-aggregate-put-about-3 c = search needs
-
-slice-aggregate-put-about-4 : tie.Need-slice-aggregate-put-about-4
-slice-aggregate-put-about-4 c = search needs
-
-put-about-requires-2 : tie.Need-put-about-requires-2
-put-about-requires-2 c κs = search needs
-
-slice-aggregate-put-about-5 : tie.Need-slice-aggregate-put-about-5
-slice-aggregate-put-about-5 c = search needs
-
-slice-aggregate-put-about-6 : tie.Need-slice-aggregate-put-about-6
-slice-aggregate-put-about-6 c = search needs
-
 put-about-requires-3 : tie.Need-put-about-requires-3
 put-about-requires-3 c κs =
     let verified = c .before .before .before .before .before in
     let a = verified .before .before .before .before .before .before .args in
     omega (arith, about-ends certificate (a .id) is-verified-by (a .at) (verified .put-about2 .ensures .1))
-
-same-length-2 : tie.Need-same-length-2
-same-length-2 c = search needs
 
 returns-2 : tie.Need-returns-2
 returns-2 c =
@@ -62,16 +32,9 @@ pub put-link-spec : {M : Type 1} → statement M
 put-link-spec =
     tie.close
     (tie.spec
-    slice-aggregate-put-about
-    slice-aggregate-put-about-2
-    put-about-requires
-    same-length
+    (λ c. search needs) (λ c. search needs) (λ c κs. search needs) (λ c. search needs)
     returns
-    slice-aggregate-put-about-3
-    slice-aggregate-put-about-4
-    put-about-requires-2
-    slice-aggregate-put-about-5
-    slice-aggregate-put-about-6
+    (λ c. search needs) (λ c. search needs) (λ c κs. search needs) (λ c. search needs) (λ c. search needs)
     put-about-requires-3
-    same-length-2
+    (λ c. search needs)
     returns-2)

@@ -24,30 +24,6 @@ loop-holds : tie.Need-loop-holds Inv-loop μ-loop
 unfolding lines-said
 loop-holds c = let a = c .before .before .args in (omega arith, refl, omega arith, page-none (a .out .now) (a .lines .now), refl)
 
-mul-read8 : tie.Need-mul-read8 Inv-loop μ-loop
-mul-read8 c = omega arith
-
-read8-requires : tie.Need-read8-requires Inv-loop μ-loop
-read8-requires c κs = omega arith
-
-mul-read16 : tie.Need-mul-read16 Inv-loop μ-loop
-mul-read16 c = omega arith
-
-add-read16 : tie.Need-add-read16 Inv-loop μ-loop
-add-read16 c = omega arith
-
-read16-requires : tie.Need-read16-requires Inv-loop μ-loop
-read16-requires c κs = omega arith
-
-put-sentence-requires : tie.Need-put-sentence-requires Inv-loop μ-loop
-put-sentence-requires c κs = omega arith
-
-add-i : tie.Need-add-i Inv-loop μ-loop
-add-i c = omega arith
-
-loop-less : tie.Need-loop-less Inv-loop μ-loop
-loop-less c = omega arith
-
 loop-again : tie.Need-loop-again Inv-loop μ-loop
 loop-again c =
     let sentence = c .before .before in
@@ -59,9 +35,6 @@ loop-again c =
     let next = page-next (a .out .now) (a .lines .now) (v .i) (v .inv .3) (v .inv .4) (what .read8 .ensures) (id .read16 .ensures)
     (sentence .put-sentence .ensures) in
     (omega arith, omega arith, omega (arith, small, sentence .put-sentence .ensures .1), next .0, next .1)
-
-same-length : tie.Need-same-length Inv-loop μ-loop
-same-length c = omega arith
 
 returns : tie.Need-returns Inv-loop μ-loop
 returns c =
@@ -78,14 +51,8 @@ put-page-spec =
     Inv-loop
     μ-loop
     loop-holds
-    mul-read8
-    read8-requires
-    mul-read16
-    add-read16
-    read16-requires
-    put-sentence-requires
-    add-i
-    loop-less
+    (λ c. omega arith) (λ c κs. omega arith) (λ c. omega arith) (λ c. omega arith) (λ c κs. omega arith)
+    (λ c κs. omega arith) (λ c. omega arith) (λ c. omega arith)
     loop-again
-    same-length
+    (λ c. omega arith)
     returns)

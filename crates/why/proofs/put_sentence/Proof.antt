@@ -7,51 +7,12 @@ use borrow.Author.Needs.{needs}
 use Rattle.why.proofs.put_sentence.Statement.{statement}
 use Rattle.why.proofs.put_sentence.Tie as tie
 
-put-link-requires : tie.Need-put-link-requires
-put-link-requires c κs = search needs
-
-slice-aggregate-put-about : tie.Need-slice-aggregate-put-about
-slice-aggregate-put-about c = search needs
-
-slice-aggregate-put-about-2 : tie.Need-slice-aggregate-put-about-2
-slice-aggregate-put-about-2 c = search needs
-
-put-about-requires : tie.Need-put-about-requires
-put-about-requires c κs = search needs
-
-slice-aggregate-put-about-3 : tie.Need-slice-aggregate-put-about-3
-slice-aggregate-put-about-3 c = search needs
-
-slice-aggregate-put-about-4 : tie.Need-slice-aggregate-put-about-4
-slice-aggregate-put-about-4 c = search needs
-
-put-about-requires-2 : tie.Need-put-about-requires-2
-put-about-requires-2 c κs = search needs
-
-slice-aggregate-put-about-5 : tie.Need-slice-aggregate-put-about-5
-slice-aggregate-put-about-5 c = search needs
-
-slice-aggregate-put-about-6 : tie.Need-slice-aggregate-put-about-6
-slice-aggregate-put-about-6 c = search needs
-
-put-about-requires-3 : tie.Need-put-about-requires-3
-put-about-requires-3 c κs = search needs
-
-put-reason-requires : tie.Need-put-reason-requires
-put-reason-requires c κs = search needs
-
-same-length : tie.Need-same-length
-same-length c = search needs
-
 returns : tie.Need-returns
 unfolding sentence
 returns c =
     let arm = c .before .before .before .before in
     let a = arm .before .before .args in
     said (a .out .now) (a .at) (ap (λ (w : ℕ). sentence (a .above) (line w (a .id))) (arm .match .keys1)) (c .before .before .put-link .ensures)
-
-same-length-2 : tie.Need-same-length-2
-same-length-2 c = search needs
 
 returns-2 : tie.Need-returns-2
 unfolding sentence
@@ -60,9 +21,6 @@ returns-2 c =
     let a = arm .before .before .args in
     said (a .out .now) (a .at) (ap (λ (w : ℕ). sentence (a .above) (line w (a .id))) (arm .match .keys2)) (c .before .before .put-about .ensures)
 
-same-length-3 : tie.Need-same-length-3
-same-length-3 c = search needs
-
 returns-3 : tie.Need-returns-3
 unfolding sentence
 returns-3 c =
@@ -70,18 +28,12 @@ returns-3 c =
     let a = arm .before .before .args in
     said (a .out .now) (a .at) (ap (λ (w : ℕ). sentence (a .above) (line w (a .id))) (arm .match .keys3)) (c .before .before .put-about2 .ensures)
 
-same-length-4 : tie.Need-same-length-4
-same-length-4 c = search needs
-
 returns-4 : tie.Need-returns-4
 unfolding sentence
 returns-4 c =
     let arm = c .before .before .before .before .before .before in
     let a = arm .before .before .args in
     said (a .out .now) (a .at) (ap (λ (w : ℕ). sentence (a .above) (line w (a .id))) (arm .match .keys4)) (c .before .before .put-about3 .ensures)
-
-same-length-5 : tie.Need-same-length-5
-same-length-5 c = search needs
 
 returns-5 : tie.Need-returns-5
 returns-5 c =
@@ -95,24 +47,15 @@ pub put-sentence-spec : {M : Type 1} → statement M
 put-sentence-spec =
     tie.close
     (tie.spec
-    put-link-requires
-    slice-aggregate-put-about
-    slice-aggregate-put-about-2
-    put-about-requires
-    slice-aggregate-put-about-3
-    slice-aggregate-put-about-4
-    put-about-requires-2
-    slice-aggregate-put-about-5
-    slice-aggregate-put-about-6
-    put-about-requires-3
-    put-reason-requires
-    same-length
+    (λ c κs. search needs) (λ c. search needs) (λ c. search needs) (λ c κs. search needs) (λ c. search needs)
+    (λ c. search needs) (λ c κs. search needs) (λ c. search needs) (λ c. search needs) (λ c κs. search needs)
+    (λ c κs. search needs) (λ c. search needs)
     returns
-    same-length-2
+    (λ c. search needs)
     returns-2
-    same-length-3
+    (λ c. search needs)
     returns-3
-    same-length-4
+    (λ c. search needs)
     returns-4
-    same-length-5
+    (λ c. search needs)
     returns-5)

@@ -20,44 +20,11 @@ abbrev μ-loop : tie.MeasureT-loop
 loop-holds : tie.Need-loop-holds Inv-loop μ-loop
 loop-holds c = (search needs, search needs, search needs, omega arith, ran-none _)
 
-read-full-requires : tie.Need-read-full-requires Inv-loop μ-loop
-read-full-requires c κs = search needs
-
-same-length : tie.Need-same-length Inv-loop μ-loop
-same-length c = search needs
-
-same-length-2 : tie.Need-same-length-2 Inv-loop μ-loop
-same-length-2 c = search needs
-
-returns : tie.Need-returns Inv-loop μ-loop
-returns c = search (needs, ran-fewer)
-
-slice-reshare-prefix-step-accepted : tie.Need-slice-reshare-prefix-step-accepted Inv-loop μ-loop
-slice-reshare-prefix-step-accepted c = search needs
-
 slice-aggregate-step-accepted : tie.Need-slice-aggregate-step-accepted Inv-loop μ-loop
 slice-aggregate-step-accepted c = sym (length-take-le _ _ (search needs))
 
-step-accepted-requires : tie.Need-step-accepted-requires Inv-loop μ-loop
-step-accepted-requires c κs = search needs
-
-add-n : tie.Need-add-n Inv-loop μ-loop
-add-n c = omega arith
-
-loop-less : tie.Need-loop-less Inv-loop μ-loop
-loop-less c = omega arith
-
 loop-again : tie.Need-loop-again Inv-loop μ-loop
 loop-again c = (search needs, search needs, search needs, omega arith, search (needs, ran-one-more))
-
-same-length-3 : tie.Need-same-length-3 Inv-loop μ-loop
-same-length-3 c = search needs
-
-same-length-4 : tie.Need-same-length-4 Inv-loop μ-loop
-same-length-4 c = search needs
-
-returns-2 : tie.Need-returns-2 Inv-loop μ-loop
-returns-2 c = search (needs, ran-fewer)
 
 pub run-events-spec : {M : Type 1} → statement M
 run-events-spec =
@@ -66,16 +33,9 @@ run-events-spec =
     Inv-loop
     μ-loop
     loop-holds
-    read-full-requires
-    same-length
-    same-length-2
-    returns
-    slice-reshare-prefix-step-accepted
+    (λ c κs. search needs) (λ c. search needs) (λ c. search needs) (λ c. search (needs, ran-fewer))
+    (λ c. search needs)
     slice-aggregate-step-accepted
-    step-accepted-requires
-    add-n
-    loop-less
+    (λ c κs. search needs) (λ c. omega arith) (λ c. omega arith)
     loop-again
-    same-length-3
-    same-length-4
-    returns-2)
+    (λ c. search needs) (λ c. search needs) (λ c. search (needs, ran-fewer)))

@@ -3,11 +3,8 @@ use Rattle.bits.proofs.WordLaws.{rest-of}
 use Rattle.bits.proofs.slots.rest.Statement.{statement}
 use Rattle.bits.proofs.slots.rest.Tie as tie
 
-sub-result : tie.Need-sub-result
-sub-result c = search needs
-
 returns : tie.Need-returns
 returns c = rest-of 64 (c .args .w) (c .pre) (c .fits .w .fits)
 
 pub rest-spec : {M : Type 1} → statement M
-rest-spec = tie.close (tie.spec sub-result returns)
+rest-spec = tie.close (tie.spec (λ c. search needs) returns)

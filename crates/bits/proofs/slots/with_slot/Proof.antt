@@ -3,11 +3,8 @@ use Rattle.bits.proofs.BitLaws.{or-put}
 use Rattle.bits.proofs.slots.with_slot.Statement.{statement}
 use Rattle.bits.proofs.slots.with_slot.Tie as tie
 
-shl-result : tie.Need-shl-result
-shl-result c = search needs
-
 returns : tie.Need-returns
 returns c = or-put 64 (c .args .w) (c .args .i) (c .pre)
 
 pub with-slot-spec : {M : Type 1} → statement M
-with-slot-spec = tie.close (tie.spec shl-result returns)
+with-slot-spec = tie.close (tie.spec (λ c. search needs) returns)

@@ -5,14 +5,8 @@ use borrow.Author.Needs.{needs}
 use Rattle.certificates.proofs.decisions.delete_certificate.Statement.{statement}
 use Rattle.certificates.proofs.decisions.delete_certificate.Tie as tie
 
-id-form-requires : tie.Need-id-form-requires
-id-form-requires c κs = search needs
-
 returns : tie.Need-returns
 returns c = unformed _ _ _ _ (delete-told _ _ (omega arith)) (c .before .id-form .ensures _) (c .if1 .taken)
-
-on-certificate-requires : tie.Need-on-certificate-requires
-on-certificate-requires c κs = search needs
 
 returns-2 : tie.Need-returns-2
 returns-2 c =
@@ -21,4 +15,4 @@ returns-2 c =
 
 pub delete-certificate-spec : {M : Type 1} → statement M
 delete-certificate-spec =
-    tie.close (tie.spec id-form-requires returns on-certificate-requires returns-2)
+    tie.close (tie.spec (λ c κs. search needs) returns (λ c κs. search needs) returns-2)

@@ -63,15 +63,6 @@ told-by-room c {r} q =
     ap (λ o. certificate-code o r) (c .before .of-other-card .ensures)
     ∙ past-4 c (rest (certificate-told _ _ _ _ _ (sym q ∙ c .certificate-room .ensures)))
 
-mode-requires : tie.Need-mode-requires
-mode-requires c κs = search needs
-
-new-certificate-requires : tie.Need-new-certificate-requires
-new-certificate-requires c κs = search needs
-
-certificate-fits-requires : tie.Need-certificate-fits-requires
-certificate-fits-requires c κs = search needs
-
 returns : tie.Need-returns
 returns c = plan-refused _ _ (omega arith) (told (c .before .before) (here (says (c .before .certificate-fits .ensures) (c .if1 .taken))))
 
@@ -83,40 +74,16 @@ may-act-requires c κs =
 returns-2 : tie.Need-returns-2
 returns-2 c = plan-refused _ _ (omega arith) (past-1 (c .before .before) (here (says (c .before .may-act .ensures) (c .if2 .taken))))
 
-known-place-requires : tie.Need-known-place-requires
-known-place-requires c κs = search needs
-
 returns-3 : tie.Need-returns-3
 returns-3 c = plan-refused _ _ (omega arith) (past-2 (c .before .before) (here (says (c .before .known-place .ensures) (c .if3 .taken))))
 
-is-present-requires : tie.Need-is-present-requires
-is-present-requires c κs = search needs
-
 returns-4 : tie.Need-returns-4
 returns-4 c = plan-refused _ _ (omega arith) (past-3 (c .before .before) (here (says (c .before .is-present .ensures) (c .if4 .taken))))
-
-of-other-card-requires : tie.Need-of-other-card-requires
-of-other-card-requires c κs = search needs
-
-certificate-room-requires : tie.Need-certificate-room-requires
-certificate-room-requires c κs = search needs
-
-enum-told : tie.Need-enum-told
-enum-told c = search needs
-
-enum-told-2 : tie.Need-enum-told-2
-enum-told-2 c = search needs
-
-enum-told-3 : tie.Need-enum-told-3
-enum-told-3 c = search needs
 
 returns-5 : tie.Need-returns-5
 returns-5 c =
     let k = c .before in
     plan-refused _ _ (omega arith) (ap (λ o. cond o 11 14) (sym (c .if5 .taken)) ∙ told-by-room (k .before .before) (k .enum-told3 .given .1))
-
-enum-known-slot : tie.Need-enum-known-slot
-enum-known-slot c = search needs
 
 returns-6 : tie.Need-returns-6
 returns-6 c =
@@ -144,23 +111,17 @@ pub install-certificate-spec : {M : Type 1} → statement M
 install-certificate-spec =
     tie.close
     (tie.spec
-    mode-requires
-    new-certificate-requires
-    certificate-fits-requires
+    (λ c κs. search needs) (λ c κs. search needs) (λ c κs. search needs)
     returns
     may-act-requires
     returns-2
-    known-place-requires
+    (λ c κs. search needs)
     returns-3
-    is-present-requires
+    (λ c κs. search needs)
     returns-4
-    of-other-card-requires
-    certificate-room-requires
-    enum-told
-    enum-told-2
-    enum-told-3
+    (λ c κs. search needs) (λ c κs. search needs) (λ c. search needs) (λ c. search needs) (λ c. search needs)
     returns-5
-    enum-known-slot
+    (λ c. search needs)
     returns-6
     returns-7
     returns-8

@@ -15,12 +15,6 @@ valid c = c .valid-root .ensures ∙ ap (λ t. valid-root t (start c .args .x)) 
 abbrev tested : tie.Else1 → tie.After-valid-root
 tested c = c .before .before .before
 
-clock-requires : tie.Need-clock-requires
-clock-requires c κs = search needs
-
-valid-root-requires : tie.Need-valid-root-requires
-valid-root-requires c κs = search needs
-
 returns : tie.Need-returns
 returns c = no-rival _ _ _ _ (valid (c .before .before .before)) (c .if1 .taken)
 
@@ -34,9 +28,6 @@ returns-3 c =
     let n = c .before .before in
     let p = n .before .before in
     other-domain _ _ _ _ (valid (tested p)) (p .if1 .left) (n .if2 .left) (c .if3 .taken)
-
-is-present-requires : tie.Need-is-present-requires
-is-present-requires c κs = search needs
 
 returns-4 : tie.Need-returns-4
 returns-4 c =
@@ -57,11 +48,10 @@ pub is-rival-spec : {M : Type 1} → statement M
 is-rival-spec =
     tie.close
     (tie.spec
-    clock-requires
-    valid-root-requires
+    (λ c κs. search needs) (λ c κs. search needs)
     returns
     returns-2
     returns-3
-    is-present-requires
+    (λ c κs. search needs)
     returns-4
     returns-5)

@@ -39,17 +39,8 @@ start c = c .before .before .before
 abbrev round : tie.After-certificate-slot Inv-loop μ-loop → tie.At-loop Inv-loop μ-loop
 round c = c .before .before .before
 
-cast-n : tie.Need-cast-n Inv-loop μ-loop
-cast-n c = search needs
-
 loop-holds : tie.Need-loop-holds Inv-loop μ-loop
 loop-holds c = (search needs, search needs, refl, refl)
-
-listed-id-requires : tie.Need-listed-id-requires Inv-loop μ-loop
-listed-id-requires c κs = search needs
-
-certificate-slot-requires : tie.Need-certificate-slot-requires Inv-loop μ-loop
-certificate-slot-requires c κs = search needs
 
 add-i : tie.Need-add-i Inv-loop μ-loop
 add-i c = omega (arith, round c .before .struct-known .given)
@@ -65,9 +56,6 @@ at c =
     let h : round c .loop .i < start (round c) .args .e .fourth = omega arith in
     listed-at (start (round c) .args .e) h (c .before .listed-id .ensures)
 
-enum-told : tie.Need-enum-told Inv-loop μ-loop
-enum-told c = search needs
-
 returns : tie.Need-returns Inv-loop μ-loop
 returns c =
     let l = c .before .before in
@@ -76,9 +64,6 @@ returns c =
     let missing = certificate-missing (decode (a .s .now)) _ (l .certificate-slot .ensures) (c .enum-told .given .1) in
     ap (λ b. cond b 3 (cond (any (other (a .s .now)) (listed (a .e))) 12 0))
     (any-stops 0 (listed (a .e)) (v .i) (unknown (a .s .now)) _ (v .inv .2) (below l) (at l) (ap not missing))
-
-enum-known-found : tie.Need-enum-known-found Inv-loop μ-loop
-enum-known-found c = search needs
 
 -- where the certificate in the slot was looked for
 abbrev looked : tie.After-certificate Inv-loop μ-loop → tie.After-certificate-slot Inv-loop μ-loop
@@ -97,9 +82,6 @@ kept c =
 certificate-requires : tie.Need-certificate-requires Inv-loop μ-loop
 certificate-requires c κs = (search needs, at-within (has-id _) _ (c .before .before .before .certificate-slot .ensures) (c .before .found .given .1))
 
-is-third-party-root-requires : tie.Need-is-third-party-root-requires Inv-loop μ-loop
-is-third-party-root-requires c κs = search needs
-
 -- what is asked of it is asked of the certificate that has its number
 asked : (c : tie.After-is-third-party-root Inv-loop μ-loop) {v : Bool} → c .is-third-party-root .result ≡ v
     → let l = looked (c .before) in other (start (round l) .args .s .now) (l .before .listed-id .result) ≡ not v
@@ -108,9 +90,6 @@ asked c h =
     let place = at-first (has-id _) _ (l .certificate-slot .ensures) (c .before .before .before .found .given .1) in
     let here = certificate-here (decode (start (round l) .args .s .now)) _ place (c .before .certificate .ensures) in
     ap not (ap (λ x. third-party-root x) (sym here) ∙ sym (c .is-third-party-root .ensures) ∙ h)
-
-loop-less : tie.Need-loop-less Inv-loop μ-loop
-loop-less c = search needs
 
 loop-again : tie.Need-loop-again Inv-loop μ-loop
 loop-again c =
@@ -123,9 +102,6 @@ loop-again c =
       kept k,
       told-later (listed (a .e)) (v .i) (other (a .s .now)) 12 (v .told) (v .inv .3) (below l) (at l) (asked (c .before) (c .if1 .taken)),
     )
-
-loop-less-2 : tie.Need-loop-less-2 Inv-loop μ-loop
-loop-less-2 c = search needs
 
 loop-again-2 : tie.Need-loop-again-2 Inv-loop μ-loop
 loop-again-2 c =
@@ -154,18 +130,16 @@ judge-listed-spec =
     (tie.spec
     Inv-loop
     μ-loop
-    cast-n
+    (λ c. search needs)
     loop-holds
-    listed-id-requires
-    certificate-slot-requires
+    (λ c κs. search needs) (λ c κs. search needs)
     add-i
-    enum-told
+    (λ c. search needs)
     returns
-    enum-known-found
+    (λ c. search needs)
     certificate-requires
-    is-third-party-root-requires
-    loop-less
+    (λ c κs. search needs) (λ c. search needs)
     loop-again
-    loop-less-2
+    (λ c. search needs)
     loop-again-2
     returns-2)

@@ -23,17 +23,11 @@ past-1 c g = gives (next (sym (c .before .of-other-operator .ensures) ∙ c .if1
 past-2 : (c : tie.Else2) {r : ℕ} → Past 2 (c .before .before .before) r
 past-2 c g = past-1 (c .before .before) (next (ne-eqb _ 1 (c .if2 .left)) g)
 
-of-other-operator-requires : tie.Need-of-other-operator-requires
-of-other-operator-requires c κs = search needs
-
 returns : tie.Need-returns
 returns c = gives (here (sym (c .before .of-other-operator .ensures) ∙ c .if1 .taken))
 
 returns-2 : tie.Need-returns-2
 returns-2 c = past-1 (c .before .before) (here (eq-eqb _ 1 (c .if2 .taken)))
-
-has-rival-requires : tie.Need-has-rival-requires
-has-rival-requires c κs = search needs
 
 returns-3 : tie.Need-returns-3
 returns-3 c = past-2 (c .before .before) (here (sym (c .before .has-rival .ensures) ∙ c .if3 .taken))
@@ -44,4 +38,4 @@ returns-4 c = past-2 (c .before .before) (next (sym (c .before .has-rival .ensur
 pub judge-marking-spec : {M : Type 1} → statement M
 judge-marking-spec =
     tie.close
-    (tie.spec of-other-operator-requires returns returns-2 has-rival-requires returns-3 returns-4)
+    (tie.spec (λ c κs. search needs) returns returns-2 (λ c κs. search needs) returns-3 returns-4)

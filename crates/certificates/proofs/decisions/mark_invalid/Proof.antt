@@ -46,20 +46,8 @@ said c q =
     let d = decided (on c) in
     q ∙ ap (λ x. first (rest d x)) (row-named (onward d) (on c .slot .given .1) (c .certificate .ensures))
 
-id-form-requires : tie.Need-id-form-requires
-id-form-requires c κs = search needs
-
 returns : tie.Need-returns
 returns c = unformed _ _ _ _ (mark-invalid-told _ _ (omega arith)) (c .before .id-form .ensures _) (c .if1 .taken)
-
-on-certificate-requires : tie.Need-on-certificate-requires
-on-certificate-requires c κs = search needs
-
-enum-known-code : tie.Need-enum-known-code
-enum-known-code c = search needs
-
-enum-known-slot : tie.Need-enum-known-slot
-enum-known-slot c = search needs
 
 certificate-requires : tie.Need-certificate-requires
 certificate-requires c κs =
@@ -83,11 +71,9 @@ pub mark-invalid-spec : {M : Type 1} → statement M
 mark-invalid-spec =
     tie.close
     (tie.spec
-    id-form-requires
+    (λ c κs. search needs)
     returns
-    on-certificate-requires
-    enum-known-code
-    enum-known-slot
+    (λ c κs. search needs) (λ c. search needs) (λ c. search needs)
     certificate-requires
     returns-2
     returns-3

@@ -45,28 +45,13 @@ said c q =
     let d = decided (on c) in
     q ∙ ap (λ x. first (rest d x)) (row-named (onward d) (on c .slot .given .1) (c .certificate .ensures))
 
-id-form-requires : tie.Need-id-form-requires
-id-form-requires c κs = search needs
-
 returns : tie.Need-returns
 returns c = unformed _ _ _ _ (mark-valid-told _ _ (omega arith)) (c .before .id-form .ensures _) (c .if1 .taken)
-
-on-certificate-requires : tie.Need-on-certificate-requires
-on-certificate-requires c κs = search needs
-
-enum-known-code : tie.Need-enum-known-code
-enum-known-code c = search needs
-
-enum-known-slot : tie.Need-enum-known-slot
-enum-known-slot c = search needs
 
 certificate-requires : tie.Need-certificate-requires
 certificate-requires c κs =
     let t = c .before in
     (start (decided t) .pre .0 .framed, row-within (onward (decided t)) (t .slot .given .1))
-
-judge-marking-requires : tie.Need-judge-marking-requires
-judge-marking-requires c κs = search needs
 
 returns-2 : tie.Need-returns-2
 returns-2 c =
@@ -85,13 +70,11 @@ pub mark-valid-spec : {M : Type 1} → statement M
 mark-valid-spec =
     tie.close
     (tie.spec
-    id-form-requires
+    (λ c κs. search needs)
     returns
-    on-certificate-requires
-    enum-known-code
-    enum-known-slot
+    (λ c κs. search needs) (λ c. search needs) (λ c. search needs)
     certificate-requires
-    judge-marking-requires
+    (λ c κs. search needs)
     returns-2
     returns-3
     returns-4)

@@ -57,9 +57,6 @@ past-2 c g = past-1 (c .before .before) (next (known c) g)
 past-3 : (c : tie.Else3) {r : ℕ} → Past 3 (start (c .before .before .before .before)) r
 past-3 c g = past-2 (c .before .before) (next (says (c .before .may-act .ensures) (c .if3 .left)) g)
 
-message-form-requires : tie.Need-message-form-requires
-message-form-requires c κs = search needs
-
 returns : tie.Need-returns
 returns c = (told (c .before .before .before) (here (says (c .before .message-form .ensures _) (c .if1 .taken))), λ z. omega arith)
 
@@ -70,9 +67,6 @@ returns-2 : tie.Need-returns-2
 returns-2 c =
     let h = c .before .before in
     (past-1 h (here (told-unknown (unknown (start h)) (other (start h)) (c .before .judge-listed .ensures) (c .if2 .taken))), λ z. few h)
-
-may-act-requires : tie.Need-may-act-requires
-may-act-requires c κs = search needs
 
 returns-3 : tie.Need-returns-3
 returns-3 c = (past-2 (c .before .before) (here (says (c .before .may-act .ensures) (c .if3 .taken))), λ z. few (c .before .before .before .before))
@@ -88,10 +82,10 @@ pub message-spec : {M : Type 1} → statement M
 message-spec =
     tie.close
     (tie.spec
-    message-form-requires
+    (λ c κs. search needs)
     returns
     judge-listed-requires
     returns-2
-    may-act-requires
+    (λ c κs. search needs)
     returns-3
     returns-4)

@@ -7,12 +7,6 @@ use Rattle.certificates.proofs.decisions.of_other_card.Tie as tie
 abbrev start : tie.After-on-a-card → tie.Start
 start c = c .before .before
 
-on-a-card-requires : tie.Need-on-a-card-requires
-on-a-card-requires c κs = search needs
-
-operator-of-requires : tie.Need-operator-of-requires
-operator-of-requires c κs = search needs
-
 returns : tie.Need-returns
 returns c =
     let t = c .before .before in
@@ -22,4 +16,4 @@ returns-2 : tie.Need-returns-2
 returns-2 c = not-on-card (decode (start (c .before) .args .s .now)) _ (c .before .on-a-card .ensures) (c .if1 .left)
 
 pub of-other-card-spec : {M : Type 1} → statement M
-of-other-card-spec = tie.close (tie.spec on-a-card-requires operator-of-requires returns returns-2)
+of-other-card-spec = tie.close (tie.spec (λ c κs. search needs) (λ c κs. search needs) returns returns-2)

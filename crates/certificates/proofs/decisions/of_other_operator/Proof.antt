@@ -7,15 +7,6 @@ use Rattle.certificates.proofs.decisions.of_other_operator.Tie as tie
 abbrev start : tie.After-is-phone-operator-root → tie.Start
 start c = c .before .before .before
 
-card-present-requires : tie.Need-card-present-requires
-card-present-requires c κs = search needs
-
-is-phone-operator-root-requires : tie.Need-is-phone-operator-root-requires
-is-phone-operator-root-requires c κs = search needs
-
-operator-of-requires : tie.Need-operator-of-requires
-operator-of-requires c κs = search needs
-
 returns : tie.Need-returns
 returns c =
     let t = c .before .before in
@@ -34,8 +25,6 @@ pub of-other-operator-spec : {M : Type 1} → statement M
 of-other-operator-spec =
     tie.close
     (tie.spec
-    card-present-requires
-    is-phone-operator-root-requires
-    operator-of-requires
+    (λ c κs. search needs) (λ c κs. search needs) (λ c κs. search needs)
     returns
     returns-2)

@@ -55,15 +55,6 @@ is-there c =
     let p = decode (start (c .before .before .before) .args .s .now) in
     c .is-present .ensures ∙ ap (present (p .trust .seen)) (named (c .before .before .before))
 
-certificate-slot-requires : tie.Need-certificate-slot-requires
-certificate-slot-requires c κs = search needs
-
-enum-told : tie.Need-enum-told
-enum-told c = search needs
-
-enum-known-slot : tie.Need-enum-known-slot
-enum-known-slot c = search needs
-
 certificate-requires : tie.Need-certificate-requires
 certificate-requires c κs =
     let k = c .before in
@@ -76,9 +67,6 @@ may-act-requires c κs =
 
 returns : tie.Need-returns
 returns c = plan-refused _ _ (omega arith) (past-1 (c .before .before) (here (says (acts (c .before)) (c .if1 .taken))))
-
-is-present-requires : tie.Need-is-present-requires
-is-present-requires c κs = search needs
 
 returns-2 : tie.Need-returns-2
 returns-2 c = plan-refused _ _ (omega arith) (past-2 (c .before .before) (here (says (is-there (c .before)) (c .if2 .taken))))
@@ -98,13 +86,11 @@ pub on-certificate-spec : {M : Type 1} → statement M
 on-certificate-spec =
     tie.close
     (tie.spec
-    certificate-slot-requires
-    enum-told
-    enum-known-slot
+    (λ c κs. search needs) (λ c. search needs) (λ c. search needs)
     certificate-requires
     may-act-requires
     returns
-    is-present-requires
+    (λ c κs. search needs)
     returns-2
     returns-3
     returns-4)

@@ -7,12 +7,6 @@ use Rattle.handling.proofs.SlotWrites.{write-is-change}
 use Rattle.certificates.proofs.effects.delete_certificate.Statement.{statement}
 use Rattle.certificates.proofs.effects.delete_certificate.Tie as tie
 
-clear-certificate-requires : tie.Need-clear-certificate-requires
-clear-certificate-requires c κs = search needs
-
-same-length : tie.Need-same-length
-same-length c = search needs
-
 returns : tie.Need-returns
 unfolding delete-certificate
 returns c =
@@ -21,4 +15,4 @@ returns c =
     (c .before .before .clear-certificate .ensures)
 
 pub delete-certificate-spec : {M : Type 1} → statement M
-delete-certificate-spec = tie.close (tie.spec clear-certificate-requires same-length returns)
+delete-certificate-spec = tie.close (tie.spec (λ c κs. search needs) (λ c. search needs) returns)

@@ -13,9 +13,6 @@ returns-2 : tie.Need-returns-2
 unfolding enabled-by
 returns-2 c = rw (ne-eqb _ _ (c .before .before .if1 .left), ne-eqb _ _ (c .if2 .taken))
 
-is-listed-requires : tie.Need-is-listed-requires
-is-listed-requires c κs = search needs
-
 returns-3 : tie.Need-returns-3
 unfolding enabled-by
 returns-3 c =
@@ -29,4 +26,4 @@ returns-4 c =
     rw (ne-eqb _ _ (l .before .before .if1 .left), eq-eqb _ _ (l .if2 .left), sym (c .before .is-listed .ensures) ∙ c .if3 .left)
 
 pub enabled-by-spec : {M : Type 1} → statement M
-enabled-by-spec = tie.close (tie.spec returns returns-2 is-listed-requires returns-3 returns-4)
+enabled-by-spec = tie.close (tie.spec returns returns-2 (λ c κs. search needs) returns-3 returns-4)

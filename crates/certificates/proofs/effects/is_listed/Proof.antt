@@ -18,16 +18,10 @@ Inv-loop e id n i₀ i = (i ≤ n) × (n ≡ e .fourth) × (length (listed e) �
 abbrev μ-loop : tie.MeasureT-loop
 μ-loop e id n i₀ i = n - i
 
-cast-n : tie.Need-cast-n Inv-loop μ-loop
-cast-n c = search needs
-
 loop-holds : tie.Need-loop-holds Inv-loop μ-loop
 loop-holds c =
     let e = c .before .args .e in
     (search needs, refl, length-take-le (e .fourth) (eight e) (c .before .pre), refl)
-
-listed-id-requires : tie.Need-listed-id-requires Inv-loop μ-loop
-listed-id-requires c κs = search needs
 
 returns : tie.Need-returns Inv-loop μ-loop
 returns c =
@@ -36,12 +30,6 @@ returns c =
     let v = c .before .before .before .loop in
     let read = c .before .listed-id .ensures ∙ sym (getD-take (e .fourth) (eight e) (v .i) 0 (omega arith)) in
     any-stops 0 (listed e) (v .i) (eqb (z .args .id)) _ (v .inv .3) (omega arith) read (eq-eqb _ _ (c .if1 .taken))
-
-add-i : tie.Need-add-i Inv-loop μ-loop
-add-i c = search needs
-
-loop-less : tie.Need-loop-less Inv-loop μ-loop
-loop-less c = search needs
 
 loop-again : tie.Need-loop-again Inv-loop μ-loop
 loop-again c =
@@ -67,11 +55,10 @@ is-listed-spec =
     (tie.spec
     Inv-loop
     μ-loop
-    cast-n
+    (λ c. search needs)
     loop-holds
-    listed-id-requires
+    (λ c κs. search needs)
     returns
-    add-i
-    loop-less
+    (λ c. search needs) (λ c. search needs)
     loop-again
     returns-2)

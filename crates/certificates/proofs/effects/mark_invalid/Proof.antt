@@ -7,12 +7,6 @@ use Rattle.handling.proofs.SlotWrites.{write-is-change}
 use Rattle.certificates.proofs.effects.mark_invalid.Statement.{statement}
 use Rattle.certificates.proofs.effects.mark_invalid.Tie as tie
 
-set-mark-requires : tie.Need-set-mark-requires
-set-mark-requires c κs = search needs
-
-same-length : tie.Need-same-length
-same-length c = search needs
-
 returns : tie.Need-returns
 unfolding mark-invalid
 returns c =
@@ -21,4 +15,4 @@ returns c =
     (c .before .before .set-mark .ensures)
 
 pub mark-invalid-spec : {M : Type 1} → statement M
-mark-invalid-spec = tie.close (tie.spec set-mark-requires same-length returns)
+mark-invalid-spec = tie.close (tie.spec (λ c κs. search needs) (λ c. search needs) returns)

@@ -13,23 +13,11 @@ start c = c .before .before .before .before
 abbrev retired : tie.After-retire → tie.After-on-a-card
 retired c = c .before .before .before
 
-certificate-requires : tie.Need-certificate-requires
-certificate-requires c κs = search needs
-
-on-a-card-requires : tie.Need-on-a-card-requires
-on-a-card-requires c κs = search needs
-
-retire-requires : tie.Need-retire-requires
-retire-requires c κs = search needs
-
 set-mark-requires : tie.Need-set-mark-requires
 set-mark-requires c κs =
     let w = c .before .before .before in
     let z = start (retired w) .pre in
     mapped-framed (retire true 0) (z .0 .framed) (z .1 .1 .0) (w .retire .ensures)
-
-same-length : tie.Need-same-length
-same-length c = search needs
 
 returns : tie.Need-returns
 returns c =
@@ -39,12 +27,6 @@ returns c =
     let z = start k in
     marks-after-retiring (z .args .e) (z .pre .0) (z .pre .1 .0) (z .pre .1 .1 .0) (z .pre .1 .1 .1) (k .before .certificate .ensures)
     (sym (k .on-a-card .ensures) ∙ w .before .before .if1 .taken) (w .retire .ensures) (m .set-mark .ensures)
-
-set-mark-requires-2 : tie.Need-set-mark-requires-2
-set-mark-requires-2 c κs = search needs
-
-same-length-2 : tie.Need-same-length-2
-same-length-2 c = search needs
 
 returns-2 : tie.Need-returns-2
 returns-2 c =
@@ -59,12 +41,9 @@ pub mark-valid-spec : {M : Type 1} → statement M
 mark-valid-spec =
     tie.close
     (tie.spec
-    certificate-requires
-    on-a-card-requires
-    retire-requires
+    (λ c κs. search needs) (λ c κs. search needs) (λ c κs. search needs)
     set-mark-requires
-    same-length
+    (λ c. search needs)
     returns
-    set-mark-requires-2
-    same-length-2
+    (λ c κs. search needs) (λ c. search needs)
     returns-2)

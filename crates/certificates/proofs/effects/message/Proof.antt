@@ -31,23 +31,8 @@ start c = c .before .before .before .before
 abbrev round : tie.After-is-third-party-root Inv-loop μ-loop → tie.At-loop Inv-loop μ-loop
 round c = c .before .before .before .before
 
-certificate-slots-requires : tie.Need-certificate-slots-requires Inv-loop μ-loop
-certificate-slots-requires c κs = search needs
-
 loop-holds : tie.Need-loop-holds Inv-loop μ-loop
 loop-holds c = (sweep-starts certificates _ (c .before .before .before .pre .0) (c .certificate-slots .ensures .0), refl)
-
-certificate-requires : tie.Need-certificate-requires Inv-loop μ-loop
-certificate-requires c κs = search needs
-
-is-third-party-root-requires : tie.Need-is-third-party-root-requires Inv-loop μ-loop
-is-third-party-root-requires c κs = search needs
-
-add-i : tie.Need-add-i Inv-loop μ-loop
-add-i c = search needs
-
-loop-less : tie.Need-loop-less Inv-loop μ-loop
-loop-less c = search needs
 
 loop-again : tie.Need-loop-again Inv-loop μ-loop
 loop-again c =
@@ -60,17 +45,8 @@ loop-again c =
       gathers-none (disables e) no-certificate _ (v .i) (v .broken) (v .inv .1) (omega arith) (disables-none e (x ∙ sweep-here certificates _ (v .inv .0)) n),
     )
 
-enabled-by-requires : tie.Need-enabled-by-requires Inv-loop μ-loop
-enabled-by-requires c κs = search needs
-
 set-enabled-requires : tie.Need-set-enabled-requires Inv-loop μ-loop
 set-enabled-requires c κs = (round (c .before .before .before) .loop .inv .0 .framed, search needs)
-
-add-i-2 : tie.Need-add-i-2 Inv-loop μ-loop
-add-i-2 c = search needs
-
-loop-less-2 : tie.Need-loop-less-2 Inv-loop μ-loop
-loop-less-2 c = search needs
 
 loop-again-2 : tie.Need-loop-again-2 Inv-loop μ-loop
 loop-again-2 c =
@@ -85,15 +61,6 @@ loop-again-2 c =
       sweep-goes-on certificates _ (v .inv .0) (omega arith) (search needs) (enabled-written e x m y) (w .set-enabled .ensures),
       gathers (disables e) no-certificate _ (v .i) (v .broken) (v .inv .1) (omega arith) (disables-told e (x ∙ sweep-here certificates _ (v .inv .0)) m y),
     )
-
-cast-set-mode : tie.Need-cast-set-mode Inv-loop μ-loop
-cast-set-mode c = search needs
-
-set-mode-requires : tie.Need-set-mode-requires Inv-loop μ-loop
-set-mode-requires c κs = search needs
-
-same-length : tie.Need-same-length Inv-loop μ-loop
-same-length c = search needs
 
 returns : tie.Need-returns Inv-loop μ-loop
 unfolding message
@@ -111,19 +78,13 @@ message-spec =
     (tie.spec
     Inv-loop
     μ-loop
-    certificate-slots-requires
+    (λ c κs. search needs)
     loop-holds
-    certificate-requires
-    is-third-party-root-requires
-    add-i
-    loop-less
+    (λ c κs. search needs) (λ c κs. search needs) (λ c. search needs) (λ c. search needs)
     loop-again
-    enabled-by-requires
+    (λ c κs. search needs)
     set-enabled-requires
-    add-i-2
-    loop-less-2
+    (λ c. search needs) (λ c. search needs)
     loop-again-2
-    cast-set-mode
-    set-mode-requires
-    same-length
+    (λ c. search needs) (λ c κs. search needs) (λ c. search needs)
     returns)

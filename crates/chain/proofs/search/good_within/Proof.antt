@@ -6,12 +6,6 @@ use Rattle.chain.proofs.search.good_within.Tie as tie
 returns : tie.Need-returns
 returns c = round-none _ _ _ (c .if1 .taken)
 
-sort-requires : tie.Need-sort-requires
-sort-requires c κs = search needs
-
-sub-good-beyond : tie.Need-sub-good-beyond
-sub-good-beyond c = search needs
-
 good-beyond-requires : tie.Need-good-beyond-requires
 good-beyond-requires c κs = let s = c .sort .ensures in (search needs, (within-lt _ _ _ _ (s .roots), within-lt _ _ _ _ (s .links)))
 
@@ -20,4 +14,4 @@ returns-2 c = rounds-all _ _ _ (c .before .before .if1 .left) _ (c .good-beyond 
 
 pub good-within-spec : {M : Type 1} → statement M
 good-within-spec =
-    tie.close (tie.spec returns sort-requires sub-good-beyond good-beyond-requires returns-2)
+    tie.close (tie.spec returns (λ c κs. search needs) (λ c. search needs) good-beyond-requires returns-2)

@@ -21,20 +21,8 @@ abbrev μ-loop : tie.MeasureT-loop
 loop-holds : tie.Need-loop-holds Inv-loop μ-loop
 loop-holds c = (record { few = c .before .pre .0 .sized .certificates; fits = c .before .pre .1 }, refl)
 
-lowest-requires : tie.Need-lowest-requires Inv-loop μ-loop
-lowest-requires c κs = omega arith
-
 certificate-requires : tie.Need-certificate-requires Inv-loop μ-loop
 certificate-requires c κs = (search needs, search at-slot)
-
-returns : tie.Need-returns Inv-loop μ-loop
-returns c = search (some-stops, eq-eqb)
-
-rest-requires : tie.Need-rest-requires Inv-loop μ-loop
-rest-requires c κs = omega arith
-
-loop-less : tie.Need-loop-less Inv-loop μ-loop
-loop-less c = search falls-to
 
 loop-again : tie.Need-loop-again Inv-loop μ-loop
 loop-again c = (search goes-to, search (some-goes-on, ne-eqb))
@@ -49,10 +37,9 @@ holds-key-spec =
     Inv-loop
     μ-loop
     loop-holds
-    lowest-requires
+    (λ c κs. omega arith)
     certificate-requires
-    returns
-    rest-requires
-    loop-less
+    (λ c. search (some-stops, eq-eqb))
+    (λ c κs. omega arith) (λ c. search falls-to)
     loop-again
     returns-2)

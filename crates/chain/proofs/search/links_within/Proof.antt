@@ -8,14 +8,8 @@ use Rattle.chain.proofs.search.links_within.Tie as tie
 returns : tie.Need-returns
 returns c = least-none _ _ (c .if1 .taken)
 
-sweep-requires : tie.Need-sweep-requires
-sweep-requires c κs = search needs
-
 returns-2 : tie.Need-returns-2
 returns-2 c = climb-found _ _ _ _ (c .before .sweep .ensures) _ (c .before .before .if1 .left) (c .if2 .taken)
-
-sub-climb : tie.Need-sub-climb
-sub-climb c = search needs
 
 climb-requires : tie.Need-climb-requires
 climb-requires c κs = (search needs, level-fits _ _ _ _ (c .before .sweep .ensures))
@@ -33,9 +27,9 @@ links-within-spec =
     tie.close
     (tie.spec
     returns
-    sweep-requires
+    (λ c κs. search needs)
     returns-2
-    sub-climb
+    (λ c. search needs)
     climb-requires
     one-more-requires
     returns-3)

@@ -19,34 +19,13 @@ Inv-loop s domain all roots₀ links₀ i₀ roots links i =
 abbrev μ-loop : tie.MeasureT-loop
 μ-loop s domain all roots₀ links₀ i₀ roots links i = all - i
 
-certificate-slots-requires : tie.Need-certificate-slots-requires Inv-loop μ-loop
-certificate-slots-requires c κs = search needs
-
 loop-holds : tie.Need-loop-holds Inv-loop μ-loop
 loop-holds c = (search needs, search needs, search needs, search sort-begin)
-
-add-i : tie.Need-add-i Inv-loop μ-loop
-add-i c = search needs
-
-certificate-requires : tie.Need-certificate-requires Inv-loop μ-loop
-certificate-requires c κs = search needs
-
-loop-less : tie.Need-loop-less Inv-loop μ-loop
-loop-less c = omega arith
 
 loop-again : tie.Need-loop-again Inv-loop μ-loop
 loop-again c =
     let v = c .before .before .before .before .loop in
     (omega arith, search needs, search needs, sort-other _ _ (v .inv .3) (omega arith) (c .before .before .certificate .ensures) (λ z. omega arith))
-
-trusted-root-requires : tie.Need-trusted-root-requires Inv-loop μ-loop
-trusted-root-requires c κs = search needs
-
-with-slot-requires : tie.Need-with-slot-requires Inv-loop μ-loop
-with-slot-requires c κs = omega arith
-
-loop-less-2 : tie.Need-loop-less-2 Inv-loop μ-loop
-loop-less-2 c = omega arith
 
 loop-again-2 : tie.Need-loop-again-2 Inv-loop μ-loop
 loop-again-2 c =
@@ -57,12 +36,6 @@ loop-again-2 c =
     (c .before .if2 .taken) (c .with-slot .ensures) in
     (omega arith, search needs, search needs, s)
 
-is-link-requires : tie.Need-is-link-requires Inv-loop μ-loop
-is-link-requires c κs = search needs
-
-loop-less-3 : tie.Need-loop-less-3 Inv-loop μ-loop
-loop-less-3 c = omega arith
-
 loop-again-3 : tie.Need-loop-again-3 Inv-loop μ-loop
 loop-again-3 c =
     let y = c .before .before .before in
@@ -72,12 +45,6 @@ loop-again-3 c =
     sort-unlinked _ _ (v .inv .3) (omega arith) (z .before .certificate .ensures) (omega arith) (y .trusted-root .ensures) (c .before .before .if2 .left)
     (c .before .is-link .ensures) (not-true _ (c .if3 .taken)) in
     (omega arith, search needs, search needs, s)
-
-with-slot-requires-2 : tie.Need-with-slot-requires-2 Inv-loop μ-loop
-with-slot-requires-2 c κs = omega arith
-
-loop-less-4 : tie.Need-loop-less-4 Inv-loop μ-loop
-loop-less-4 c = omega arith
 
 loop-again-4 : tie.Need-loop-again-4 Inv-loop μ-loop
 loop-again-4 c =
@@ -99,20 +66,14 @@ sort-spec =
     (tie.spec
     Inv-loop
     μ-loop
-    certificate-slots-requires
+    (λ c κs. search needs)
     loop-holds
-    add-i
-    certificate-requires
-    loop-less
+    (λ c. search needs) (λ c κs. search needs) (λ c. omega arith)
     loop-again
-    trusted-root-requires
-    with-slot-requires
-    loop-less-2
+    (λ c κs. search needs) (λ c κs. omega arith) (λ c. omega arith)
     loop-again-2
-    is-link-requires
-    loop-less-3
+    (λ c κs. search needs) (λ c. omega arith)
     loop-again-3
-    with-slot-requires-2
-    loop-less-4
+    (λ c κs. omega arith) (λ c. omega arith)
     loop-again-4
     returns)

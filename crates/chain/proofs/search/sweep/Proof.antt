@@ -19,23 +19,8 @@ Inv-loop s domain key level all links₀ i₀ links i =
 abbrev μ-loop : tie.MeasureT-loop
 μ-loop s domain key level all links₀ i₀ links i = all - i
 
-certificate-slots-requires : tie.Need-certificate-slots-requires Inv-loop μ-loop
-certificate-slots-requires c κs = search needs
-
 loop-holds : tie.Need-loop-holds Inv-loop μ-loop
 loop-holds c = (search needs, search needs, search needs, search sweep-begin)
-
-add-i : tie.Need-add-i Inv-loop μ-loop
-add-i c = search needs
-
-certificate-requires : tie.Need-certificate-requires Inv-loop μ-loop
-certificate-requires c κs = search needs
-
-has-key-requires : tie.Need-has-key-requires Inv-loop μ-loop
-has-key-requires c κs = search needs
-
-loop-less : tie.Need-loop-less Inv-loop μ-loop
-loop-less c = omega arith
 
 loop-again : tie.Need-loop-again Inv-loop μ-loop
 loop-again c =
@@ -43,21 +28,12 @@ loop-again c =
     let s = sweep-other _ _ _ _ (v .inv .3) (omega arith) (c .before .before .certificate .ensures) (c .before .has-key .ensures) in
     (omega arith, search needs, search needs, s (not-true _ (c .if1 .taken)))
 
-trusted-root-requires : tie.Need-trusted-root-requires Inv-loop μ-loop
-trusted-root-requires c κs = search needs
-
 returns : tie.Need-returns Inv-loop μ-loop
 returns c =
     let v = c .before .before .before .before .before .before .loop in
     let q = c .before .before .before .before .certificate .ensures in
     let s = sweep-root _ _ _ _ (v .inv .3) (omega arith) q (c .before .before .before .has-key .ensures) (not-false _ (c .before .before .if1 .left)) in
     s (c .before .trusted-root .ensures) (c .if2 .taken)
-
-is-link-requires : tie.Need-is-link-requires Inv-loop μ-loop
-is-link-requires c κs = search needs
-
-loop-less-2 : tie.Need-loop-less-2 Inv-loop μ-loop
-loop-less-2 c = omega arith
 
 loop-again-2 : tie.Need-loop-again-2 Inv-loop μ-loop
 loop-again-2 c =
@@ -70,12 +46,6 @@ loop-again-2 c =
     sweep-unlinked _ _ _ _ (v .inv .3) (omega arith) q (z .before .has-key .ensures) k r (c .before .before .if2 .left) (c .before .is-link .ensures)
     (not-true _ (c .if3 .taken)) in
     (omega arith, search needs, search needs, s)
-
-with-slot-requires : tie.Need-with-slot-requires Inv-loop μ-loop
-with-slot-requires c κs = omega arith
-
-loop-less-3 : tie.Need-loop-less-3 Inv-loop μ-loop
-loop-less-3 c = omega arith
 
 loop-again-3 : tie.Need-loop-again-3 Inv-loop μ-loop
 loop-again-3 c =
@@ -99,19 +69,14 @@ sweep-spec =
     (tie.spec
     Inv-loop
     μ-loop
-    certificate-slots-requires
+    (λ c κs. search needs)
     loop-holds
-    add-i
-    certificate-requires
-    has-key-requires
-    loop-less
+    (λ c. search needs) (λ c κs. search needs) (λ c κs. search needs) (λ c. omega arith)
     loop-again
-    trusted-root-requires
+    (λ c κs. search needs)
     returns
-    is-link-requires
-    loop-less-2
+    (λ c κs. search needs) (λ c. omega arith)
     loop-again-2
-    with-slot-requires
-    loop-less-3
+    (λ c κs. omega arith) (λ c. omega arith)
     loop-again-3
     returns-2)

@@ -16,12 +16,6 @@ abbrev μ-loop : tie.MeasureT-loop
 loop-holds : tie.Need-loop-holds Inv-loop μ-loop
 loop-holds c = let p = c .before .pre in up-begin _ _ _ (record { few = p .0 .sized .certificates; fits = p .1 })
 
-lowest-requires : tie.Need-lowest-requires Inv-loop μ-loop
-lowest-requires c κs = omega arith
-
-rest-requires : tie.Need-rest-requires Inv-loop μ-loop
-rest-requires c κs = omega arith
-
 certificate-requires : tie.Need-certificate-requires Inv-loop μ-loop
 certificate-requires c κs = (search needs, at-slot (c .before .before .before .loop .inv .going) (λ z. omega arith) (c .before .lowest .ensures))
 
@@ -41,9 +35,6 @@ loop-again c =
     let e = z .before .before .before .lowest .ensures in
     let g = z .before .before .rest .ensures in
     up-known _ _ _ (v .inv) (λ z. omega arith) e g (z .before .certificate .ensures) (sym (c .if1 .taken) ∙ z .holds-key .ensures)
-
-sweep-requires : tie.Need-sweep-requires Inv-loop μ-loop
-sweep-requires c κs = search needs
 
 returns : tie.Need-returns Inv-loop μ-loop
 returns c =
@@ -77,13 +68,12 @@ up-spec =
     Inv-loop
     μ-loop
     loop-holds
-    lowest-requires
-    rest-requires
+    (λ c κs. omega arith) (λ c κs. omega arith)
     certificate-requires
     holds-key-requires
     loop-less
     loop-again
-    sweep-requires
+    (λ c κs. search needs)
     returns
     loop-less-2
     loop-again-2

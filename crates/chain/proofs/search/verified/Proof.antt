@@ -23,29 +23,14 @@ Inv-loop s left fresh found₀ next₀ found next =
 abbrev μ-loop : tie.MeasureT-loop
 μ-loop s left fresh found₀ next₀ found next = next
 
-returns : tie.Need-returns Inv-loop μ-loop
-returns c = search verified-nothing
-
 loop-holds : tie.Need-loop-holds Inv-loop μ-loop
 loop-holds c =
     let z = c .before .before .pre in
     let n = z .0 .sized .certificates in
     (record { few = n; fits = z .1 .0 }, record { few = n; fits = z .1 .1 }, zero-add _)
 
-lowest-requires : tie.Need-lowest-requires Inv-loop μ-loop
-lowest-requires c κs = omega arith
-
-rest-requires : tie.Need-rest-requires Inv-loop μ-loop
-rest-requires c κs = omega arith
-
 certificate-requires : tie.Need-certificate-requires Inv-loop μ-loop
 certificate-requires c κs = (search needs, search at-slot)
-
-holds-key-requires : tie.Need-holds-key-requires Inv-loop μ-loop
-holds-key-requires c κs = search needs
-
-loop-less : tie.Need-loop-less Inv-loop μ-loop
-loop-less c = search falls-to
 
 loop-again : tie.Need-loop-again Inv-loop μ-loop
 unfolding verified-by
@@ -72,9 +57,6 @@ add-found c =
     let f = found-fits _ _ _ (v .inv .0) _ _ k in
     omega arith
 
-loop-less-2 : tie.Need-loop-less-2 Inv-loop μ-loop
-loop-less-2 c = search falls-to
-
 loop-again-2 : tie.Need-loop-again-2 Inv-loop μ-loop
 unfolding verified-by
 loop-again-2 c =
@@ -93,16 +75,14 @@ verified-spec =
     (tie.spec
     Inv-loop
     μ-loop
-    returns
+    (λ c. search verified-nothing)
     loop-holds
-    lowest-requires
-    rest-requires
+    (λ c κs. omega arith) (λ c κs. omega arith)
     certificate-requires
-    holds-key-requires
-    loop-less
+    (λ c κs. search needs) (λ c. search falls-to)
     loop-again
     sub-found
     add-found
-    loop-less-2
+    (λ c. search falls-to)
     loop-again-2
     returns-2)

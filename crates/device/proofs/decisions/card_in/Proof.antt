@@ -17,27 +17,6 @@ fits : (c : tie.After-card-form)
     → let z = c .before .before .before in Form z (c .card-form .result) ≡ Form z (card-form (decode (z .args .s .now)) (z .args .e))
 fits c = let z = c .before .before .before in ap (Form z) (c .card-form .ensures (decode (z .args .s .now)))
 
-card-form-requires : tie.Need-card-form-requires
-card-form-requires c κs = search needs
-
-returns : tie.Need-returns
-returns c = search (card-in-told, here, says, fits)
-
-may-act-requires : tie.Need-may-act-requires
-may-act-requires c κs = search needs
-
-returns-2 : tie.Need-returns-2
-returns-2 c = search (card-in-told, here, next, says, fits)
-
-known-place-requires : tie.Need-known-place-requires
-known-place-requires c κs = search needs
-
-returns-3 : tie.Need-returns-3
-returns-3 c = search (card-in-told, here, next, says, fits)
-
-card-present-requires : tie.Need-card-present-requires
-card-present-requires c κs = search needs
-
 returns-4 : tie.Need-returns-4
 returns-4 c = search (card-in-told, here, next, says, says-not-non-zero, fits) depth 7
 
@@ -48,12 +27,9 @@ pub card-in-spec : {M : Type 1} → statement M
 card-in-spec =
     tie.close
     (tie.spec
-    card-form-requires
-    returns
-    may-act-requires
-    returns-2
-    known-place-requires
-    returns-3
-    card-present-requires
+    (λ c κs. search needs) (λ c. search (card-in-told, here, says, fits))
+    (λ c κs. search needs) (λ c. search (card-in-told, here, next, says, fits))
+    (λ c κs. search needs) (λ c. search (card-in-told, here, next, says, fits))
+    (λ c κs. search needs)
     returns-4
     returns-5)

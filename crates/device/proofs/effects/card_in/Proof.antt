@@ -9,16 +9,10 @@ use Rattle.device.proofs.effects.card_in.Tie as tie
 abbrev start : tie.After-card-only → tie.Start
 start c = c .before .before .before
 
-card-only-requires : tie.Need-card-only-requires
-card-only-requires c κs = search needs
-
 card-rule-requires : tie.Need-card-rule-requires
 card-rule-requires c κs =
     let put = c .before .before .before in
     framed-as _ (put .card-only .ensures) (sized-with-card _ _ (start put .pre .sized))
-
-same-length : tie.Need-same-length
-same-length c = search needs
 
 returns : tie.Need-returns
 unfolding card-in
@@ -28,4 +22,4 @@ returns c =
     c .before .before .card-rule .ensures ∙ ap (λ p. encode (card-rule p)) (says (with-card (a .e .second) (decode (a .s .now))) (put .card-only .ensures))
 
 pub card-in-spec : {M : Type 1} → statement M
-card-in-spec = tie.close (tie.spec card-only-requires card-rule-requires same-length returns)
+card-in-spec = tie.close (tie.spec (λ c κs. search needs) card-rule-requires (λ c. search needs) returns)

@@ -11,21 +11,6 @@ use Rattle.device.proofs.effects.card_rule.Tie as tie
 abbrev start : tie.After-card-present → tie.Start
 start c = c .before .before .before
 
-card-present-requires : tie.Need-card-present-requires
-card-present-requires c κs = search needs
-
-has-valid-operator-requires : tie.Need-has-valid-operator-requires
-has-valid-operator-requires c κs = search needs
-
-operator-of-requires : tie.Need-operator-of-requires
-operator-of-requires c κs = search needs
-
-retire-requires : tie.Need-retire-requires
-retire-requires c κs = search needs
-
-same-length : tie.Need-same-length
-same-length c = search needs
-
 returns : tie.Need-returns
 unfolding card-rule retired outgoing
 returns c =
@@ -42,9 +27,6 @@ pub card-rule-spec : {M : Type 1} → statement M
 card-rule-spec =
     tie.close
     (tie.spec
-    card-present-requires
-    has-valid-operator-requires
-    operator-of-requires
-    retire-requires
-    same-length
+    (λ c κs. search needs) (λ c κs. search needs) (λ c κs. search needs) (λ c κs. search needs)
+    (λ c. search needs)
     returns)

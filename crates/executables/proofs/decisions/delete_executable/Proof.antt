@@ -5,14 +5,8 @@ use borrow.Author.Needs.{needs}
 use Rattle.executables.proofs.decisions.delete_executable.Statement.{statement}
 use Rattle.executables.proofs.decisions.delete_executable.Tie as tie
 
-id-form-requires : tie.Need-id-form-requires
-id-form-requires c κs = search needs
-
 returns : tie.Need-returns
 returns c = unformed _ _ _ _ (delete-executable-told _ _ (omega arith)) (c .before .id-form .ensures _) (c .if1 .taken)
-
-on-executable-requires : tie.Need-on-executable-requires
-on-executable-requires c κs = search needs
 
 returns-2 : tie.Need-returns-2
 returns-2 c =
@@ -21,4 +15,4 @@ returns-2 c =
 
 pub delete-executable-spec : {M : Type 1} → statement M
 delete-executable-spec =
-    tie.close (tie.spec id-form-requires returns on-executable-requires returns-2)
+    tie.close (tie.spec (λ c κs. search needs) returns (λ c κs. search needs) returns-2)

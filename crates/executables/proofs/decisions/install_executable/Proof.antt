@@ -24,29 +24,11 @@ told-by-room c q =
     let t = executable-told _ _ (sym q ∙ c .executable-room .ensures) in
     search (install-executable-told, next, rest t, says, fits)
 
-executable-form-requires : tie.Need-executable-form-requires
-executable-form-requires c κs = search needs
-
 returns : tie.Need-returns
 returns c = plan-refused _ _ (omega arith) (search (install-executable-told, here, says, fits))
 
-may-act-requires : tie.Need-may-act-requires
-may-act-requires c κs = search needs
-
 returns-2 : tie.Need-returns-2
 returns-2 c = plan-refused _ _ (omega arith) (search (install-executable-told, here, next, says, fits))
-
-executable-room-requires : tie.Need-executable-room-requires
-executable-room-requires c κs = search needs
-
-enum-told : tie.Need-enum-told
-enum-told c = search needs
-
-enum-told-2 : tie.Need-enum-told-2
-enum-told-2 c = search needs
-
-enum-known-slot : tie.Need-enum-known-slot
-enum-known-slot c = search needs
 
 returns-3 : tie.Need-returns-3
 returns-3 c = plan-refused _ _ (omega arith) (told-by-room (c .before .before) (c .enum-told .given .1))
@@ -64,14 +46,11 @@ pub install-executable-spec : {M : Type 1} → statement M
 install-executable-spec =
     tie.close
     (tie.spec
-    executable-form-requires
+    (λ c κs. search needs)
     returns
-    may-act-requires
+    (λ c κs. search needs)
     returns-2
-    executable-room-requires
-    enum-told
-    enum-told-2
-    enum-known-slot
+    (λ c κs. search needs) (λ c. search needs) (λ c. search needs) (λ c. search needs)
     returns-3
     returns-4
     returns-5)

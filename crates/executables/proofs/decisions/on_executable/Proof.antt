@@ -10,18 +10,6 @@ use borrow.Author.Needs.{needs}
 use Rattle.executables.proofs.decisions.on_executable.Statement.{statement}
 use Rattle.executables.proofs.decisions.on_executable.Tie as tie
 
-executable-slot-requires : tie.Need-executable-slot-requires
-executable-slot-requires c κs = search needs
-
-enum-told : tie.Need-enum-told
-enum-told c = search needs
-
-enum-known-slot : tie.Need-enum-known-slot
-enum-known-slot c = search needs
-
-may-act-requires : tie.Need-may-act-requires
-may-act-requires c κs = search needs
-
 returns : tie.Need-returns
 returns c =
     let k = c .before .before .before in
@@ -45,10 +33,7 @@ pub on-executable-spec : {M : Type 1} → statement M
 on-executable-spec =
     tie.close
     (tie.spec
-    executable-slot-requires
-    enum-told
-    enum-known-slot
-    may-act-requires
+    (λ c κs. search needs) (λ c. search needs) (λ c. search needs) (λ c κs. search needs)
     returns
     returns-2
     returns-3)

@@ -33,23 +33,8 @@ named c =
     let place = on-slot _ _ (on .before .before .on-executable .ensures) (on .slot .given .1) in
     executable-here (decode (start (asked on .before) .args .s .now)) _ place (c .executable .ensures)
 
-action-count-requires : tie.Need-action-count-requires
-action-count-requires c κs = search needs
-
-action-form-requires : tie.Need-action-form-requires
-action-form-requires c κs = search needs
-
 returns : tie.Need-returns
 returns c = unformed _ _ _ _ (request-told _ _ (omega arith) refl) (fits (c .before)) (c .if1 .taken)
-
-on-executable-requires : tie.Need-on-executable-requires
-on-executable-requires c κs = search needs
-
-enum-known-code : tie.Need-enum-known-code
-enum-known-code c = search needs
-
-enum-known-slot : tie.Need-enum-known-slot
-enum-known-slot c = search needs
 
 executable-requires : tie.Need-executable-requires
 executable-requires c κs =
@@ -87,12 +72,9 @@ pub request-spec : {M : Type 1} → statement M
 request-spec =
     tie.close
     (tie.spec
-    action-count-requires
-    action-form-requires
+    (λ c κs. search needs) (λ c κs. search needs)
     returns
-    on-executable-requires
-    enum-known-code
-    enum-known-slot
+    (λ c κs. search needs) (λ c. search needs) (λ c. search needs)
     executable-requires
     table-says-requires
     returns-2

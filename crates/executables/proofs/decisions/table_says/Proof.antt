@@ -28,15 +28,6 @@ lacks : (c : tie.After-has-bit) → let z = start (c .before .before) in
     (eqb (c .before .before .table-byte .result) 1 && not (c .has-bit .result)) ≡ (eqb (byte z) 1 && not (has-bit (z .args .x .permissions) (z .args .action)))
 lacks c = ap₂ (λ n b. eqb n 1 && not b) (c .before .before .table-byte .ensures) (c .has-bit .ensures)
 
-table-byte-requires : tie.Need-table-byte-requires
-table-byte-requires c κs = search needs
-
-returns : tie.Need-returns
-returns c = search (gives, here, never)
-
-has-bit-requires : tie.Need-has-bit-requires
-has-bit-requires c κs = search needs
-
 returns-2 : tie.Need-returns-2
 returns-2 c = gives (next (not-never (c .before .before)) (here (sym (lacks (c .before)) ∙ c .if2 .taken)))
 
@@ -47,8 +38,7 @@ pub table-says-spec : {M : Type 1} → statement M
 table-says-spec =
     tie.close
     (tie.spec
-    table-byte-requires
-    returns
-    has-bit-requires
+    (λ c κs. search needs) (λ c. search (gives, here, never))
+    (λ c κs. search needs)
     returns-2
     returns-3)

@@ -7,12 +7,6 @@ use Rattle.handling.proofs.SlotWrites.{write-is-change}
 use Rattle.executables.proofs.effects.delete_executable.Statement.{statement}
 use Rattle.executables.proofs.effects.delete_executable.Tie as tie
 
-clear-executable-requires : tie.Need-clear-executable-requires
-clear-executable-requires c κs = search needs
-
-same-length : tie.Need-same-length
-same-length c = search needs
-
 returns : tie.Need-returns
 unfolding delete-executable
 returns c =
@@ -21,4 +15,4 @@ returns c =
     (c .before .before .clear-executable .ensures)
 
 pub delete-executable-spec : {M : Type 1} → statement M
-delete-executable-spec = tie.close (tie.spec clear-executable-requires same-length returns)
+delete-executable-spec = tie.close (tie.spec (λ c κs. search needs) (λ c. search needs) returns)

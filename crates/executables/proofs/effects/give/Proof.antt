@@ -6,21 +6,6 @@ use Rattle.executables.proofs.effects.give.Tie as tie
 abbrev start : tie.After-set-bit → tie.Start
 start c = c .before .before .before .before .before
 
-executable-requires : tie.Need-executable-requires
-executable-requires c κs = search needs
-
-cast-set-bit : tie.Need-cast-set-bit
-cast-set-bit c = search needs
-
-set-bit-requires : tie.Need-set-bit-requires
-set-bit-requires c κs = search needs
-
-set-permissions-requires : tie.Need-set-permissions-requires
-set-permissions-requires c κs = search needs
-
-same-length : tie.Need-same-length
-same-length c = search needs
-
 returns : tie.Need-returns
 returns c =
     let bit = c .before .before .before .before in
@@ -32,9 +17,6 @@ pub give-spec : {M : Type 1} → statement M
 give-spec =
     tie.close
     (tie.spec
-    executable-requires
-    cast-set-bit
-    set-bit-requires
-    set-permissions-requires
-    same-length
+    (λ c κs. search needs) (λ c. search needs) (λ c κs. search needs) (λ c κs. search needs)
+    (λ c. search needs)
     returns)

@@ -5,12 +5,6 @@ use Rattle.handling.proofs.SlotWrites.{write-is-fill}
 use Rattle.executables.proofs.effects.install_executable.Statement.{statement}
 use Rattle.executables.proofs.effects.install_executable.Tie as tie
 
-write-executable-requires : tie.Need-write-executable-requires
-write-executable-requires c κs = search needs
-
-same-length : tie.Need-same-length
-same-length c = search needs
-
 returns : tie.Need-returns
 unfolding install-executable
 returns c =
@@ -18,4 +12,4 @@ returns c =
     write-is-fill executables _ (z .pre .0) (z .pre .1 .0) (z .pre .1 .1) (c .before .before .write-executable .ensures)
 
 pub install-executable-spec : {M : Type 1} → statement M
-install-executable-spec = tie.close (tie.spec write-executable-requires same-length returns)
+install-executable-spec = tie.close (tie.spec (λ c κs. search needs) (λ c. search needs) returns)

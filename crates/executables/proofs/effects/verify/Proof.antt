@@ -9,18 +9,6 @@ use Rattle.executables.proofs.effects.verify.Tie as tie
 abbrev start : tie.After-chain-of → tie.Start
 start c = c .before .before .before .before
 
-executable-requires : tie.Need-executable-requires
-executable-requires c κs = search needs
-
-chain-of-requires : tie.Need-chain-of-requires
-chain-of-requires c κs = search needs
-
-set-domain-requires : tie.Need-set-domain-requires
-set-domain-requires c κs = search needs
-
-same-length : tie.Need-same-length
-same-length c = search needs
-
 returns : tie.Need-returns
 returns c =
     let told = c .before .before .before .before in
@@ -34,4 +22,4 @@ returns c =
 pub verify-spec : {M : Type 1} → statement M
 verify-spec =
     tie.close
-    (tie.spec executable-requires chain-of-requires set-domain-requires same-length returns)
+    (tie.spec (λ c κs. search needs) (λ c κs. search needs) (λ c κs. search needs) (λ c. search needs) returns)

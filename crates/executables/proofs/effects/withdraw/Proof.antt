@@ -6,21 +6,6 @@ use Rattle.executables.proofs.effects.withdraw.Tie as tie
 abbrev start : tie.After-clear-bit → tie.Start
 start c = c .before .before .before .before .before
 
-executable-requires : tie.Need-executable-requires
-executable-requires c κs = search needs
-
-cast-clear-bit : tie.Need-cast-clear-bit
-cast-clear-bit c = search needs
-
-clear-bit-requires : tie.Need-clear-bit-requires
-clear-bit-requires c κs = search needs
-
-set-permissions-requires : tie.Need-set-permissions-requires
-set-permissions-requires c κs = search needs
-
-same-length : tie.Need-same-length
-same-length c = search needs
-
 returns : tie.Need-returns
 returns c =
     let bit = c .before .before .before .before in
@@ -32,9 +17,6 @@ pub withdraw-spec : {M : Type 1} → statement M
 withdraw-spec =
     tie.close
     (tie.spec
-    executable-requires
-    cast-clear-bit
-    clear-bit-requires
-    set-permissions-requires
-    same-length
+    (λ c κs. search needs) (λ c. search needs) (λ c κs. search needs) (λ c κs. search needs)
+    (λ c. search needs)
     returns)

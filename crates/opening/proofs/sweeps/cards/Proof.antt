@@ -17,25 +17,13 @@ Inv-loop s cards i₀ i = (i ≤ cards) × (cards ≡ length (decode s .cards)) 
 abbrev μ-loop : tie.MeasureT-loop
 μ-loop s cards i₀ i = cards - i
 
-card-count-requires : tie.Need-card-count-requires Inv-loop μ-loop
-card-count-requires c κs = search needs
-
 loop-holds : tie.Need-loop-holds Inv-loop μ-loop
 loop-holds c = (search needs, search needs, cards-grow .none)
-
-card-with-requires : tie.Need-card-with-requires Inv-loop μ-loop
-card-with-requires c κs = search needs
 
 returns : tie.Need-returns Inv-loop μ-loop
 returns c =
     let v = c .before .before .before .loop in
     breaks-here cards-grow no-card _ (v .i) (v .inv .2) (omega arith) refl (c .before .card-with .ensures) (c .if1 .taken)
-
-add-i : tie.Need-add-i Inv-loop μ-loop
-add-i c = search needs
-
-loop-less : tie.Need-loop-less Inv-loop μ-loop
-loop-less c = search needs
 
 loop-again : tie.Need-loop-again Inv-loop μ-loop
 loop-again c =
@@ -51,11 +39,10 @@ cards-spec =
     (tie.spec
     Inv-loop
     μ-loop
-    card-count-requires
+    (λ c κs. search needs)
     loop-holds
-    card-with-requires
+    (λ c κs. search needs)
     returns
-    add-i
-    loop-less
+    (λ c. search needs) (λ c. search needs)
     loop-again
     returns-2)

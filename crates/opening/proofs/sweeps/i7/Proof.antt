@@ -18,28 +18,13 @@ Inv-loop s actions slots i₀ i = (i ≤ slots) × (slots ≡ length (decode s .
 abbrev μ-loop : tie.MeasureT-loop
 μ-loop s actions slots i₀ i = slots - i
 
-action-count-requires : tie.Need-action-count-requires Inv-loop μ-loop
-action-count-requires c κs = search needs
-
-executable-slots-requires : tie.Need-executable-slots-requires Inv-loop μ-loop
-executable-slots-requires c κs = search needs
-
 loop-holds : tie.Need-loop-holds Inv-loop μ-loop
 loop-holds c = (search needs, search needs, (i7-grows (decode _)) .none)
-
-executable-with-requires : tie.Need-executable-with-requires Inv-loop μ-loop
-executable-with-requires c κs = search needs
 
 returns : tie.Need-returns Inv-loop μ-loop
 returns c =
     let v = c .before .before .before .loop in
     breaks-here (i7-grows (decode _)) no-executable _ (v .i) {b = c .before .executable-with .result} (v .inv .2) (omega arith) refl (cc) (c .if1 .taken)
-
-add-i : tie.Need-add-i Inv-loop μ-loop
-add-i c = search needs
-
-loop-less : tie.Need-loop-less Inv-loop μ-loop
-loop-less c = search needs
 
 loop-again : tie.Need-loop-again Inv-loop μ-loop
 loop-again c =
@@ -58,12 +43,10 @@ i7-spec =
     (tie.spec
     Inv-loop
     μ-loop
-    action-count-requires
-    executable-slots-requires
+    (λ c κs. search needs) (λ c κs. search needs)
     loop-holds
-    executable-with-requires
+    (λ c κs. search needs)
     returns
-    add-i
-    loop-less
+    (λ c. search needs) (λ c. search needs)
     loop-again
     returns-2)

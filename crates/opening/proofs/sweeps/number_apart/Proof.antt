@@ -17,29 +17,14 @@ Inv-loop s i k j₀ j = (j ≤ i) × (all (λ y. apart (card-at (decode s) i .nu
 abbrev μ-loop : tie.MeasureT-loop
 μ-loop s i k j₀ j = i - j
 
-card-requires : tie.Need-card-requires Inv-loop μ-loop
-card-requires c κs = search needs
-
 loop-holds : tie.Need-loop-holds Inv-loop μ-loop
 loop-holds c = (search needs, all-grows _ .none)
-
-card-requires-2 : tie.Need-card-requires-2 Inv-loop μ-loop
-card-requires-2 c κs = search needs
-
-apart-requires : tie.Need-apart-requires Inv-loop μ-loop
-apart-requires c κs = search needs
 
 returns : tie.Need-returns Inv-loop μ-loop
 returns c =
     let v = c .before .before .before .before .loop in
     below-fails _ no-card _ (v .j) {b = c .before .apart .result} (v .inv .0) (v .inv .1)
     (omega arith) (omega arith) (c .before .before .card2 .ensures) (cc) (c .if1 .taken)
-
-add-j : tie.Need-add-j Inv-loop μ-loop
-add-j c = search needs
-
-loop-less : tie.Need-loop-less Inv-loop μ-loop
-loop-less c = search needs
 
 loop-again : tie.Need-loop-again Inv-loop μ-loop
 loop-again c =
@@ -58,12 +43,10 @@ number-apart-spec =
     (tie.spec
     Inv-loop
     μ-loop
-    card-requires
+    (λ c κs. search needs)
     loop-holds
-    card-requires-2
-    apart-requires
+    (λ c κs. search needs) (λ c κs. search needs)
     returns
-    add-j
-    loop-less
+    (λ c. search needs) (λ c. search needs)
     loop-again
     returns-2)

@@ -20,29 +20,14 @@ Inv-loop s slots i₀ i =
 abbrev μ-loop : tie.MeasureT-loop
 μ-loop s slots i₀ i = slots - i
 
-certificate-slots-requires : tie.Need-certificate-slots-requires Inv-loop μ-loop
-certificate-slots-requires c κs = search needs
-
 loop-holds : tie.Need-loop-holds Inv-loop μ-loop
 loop-holds c = (search needs, search needs, all-grows _ .none)
-
-certificate-requires : tie.Need-certificate-requires Inv-loop μ-loop
-certificate-requires c κs = search needs
-
-known-place-requires : tie.Need-known-place-requires Inv-loop μ-loop
-known-place-requires c κs = search needs
 
 returns : tie.Need-returns Inv-loop μ-loop
 returns c =
     let v = c .before .before .before .before .loop in
     breaks-here (all-grows _) no-certificate _ (v .i) (v .inv .2)
     (omega arith) (c .before .before .certificate .ensures) (c .before .known-place .ensures) (c .if1 .taken)
-
-add-i : tie.Need-add-i Inv-loop μ-loop
-add-i c = search needs
-
-loop-less : tie.Need-loop-less Inv-loop μ-loop
-loop-less c = search needs
 
 loop-again : tie.Need-loop-again Inv-loop μ-loop
 loop-again c =
@@ -62,12 +47,10 @@ places-known-spec =
     (tie.spec
     Inv-loop
     μ-loop
-    certificate-slots-requires
+    (λ c κs. search needs)
     loop-holds
-    certificate-requires
-    known-place-requires
+    (λ c κs. search needs) (λ c κs. search needs)
     returns
-    add-i
-    loop-less
+    (λ c. search needs) (λ c. search needs)
     loop-again
     returns-2)

@@ -18,29 +18,14 @@ Inv-loop s actions i₀ i = (i ≤ actions) × (actions ≡ length (decode s .ta
 abbrev μ-loop : tie.MeasureT-loop
 μ-loop s actions i₀ i = actions - i
 
-action-count-requires : tie.Need-action-count-requires Inv-loop μ-loop
-action-count-requires c κs = search needs
-
 loop-holds : tie.Need-loop-holds Inv-loop μ-loop
 loop-holds c = (search needs, search needs, all-grows row-fits .none)
-
-row-requires : tie.Need-row-requires Inv-loop μ-loop
-row-requires c κs = search needs
-
-row-fits-requires : tie.Need-row-fits-requires Inv-loop μ-loop
-row-fits-requires c κs = search needs
 
 returns : tie.Need-returns Inv-loop μ-loop
 returns c =
     let v = c .before .before .before .before .loop in
     breaks-here (all-grows row-fits) no-row _ (v .i) (v .inv .2)
     (omega arith) (c .before .before .row .ensures) (c .before .row-fits .ensures) (c .if1 .taken)
-
-add-i : tie.Need-add-i Inv-loop μ-loop
-add-i c = search needs
-
-loop-less : tie.Need-loop-less Inv-loop μ-loop
-loop-less c = search needs
 
 loop-again : tie.Need-loop-again Inv-loop μ-loop
 loop-again c =
@@ -60,12 +45,10 @@ rows-fit-spec =
     (tie.spec
     Inv-loop
     μ-loop
-    action-count-requires
+    (λ c κs. search needs)
     loop-holds
-    row-requires
-    row-fits-requires
+    (λ c κs. search needs) (λ c κs. search needs)
     returns
-    add-i
-    loop-less
+    (λ c. search needs) (λ c. search needs)
     loop-again
     returns-2)

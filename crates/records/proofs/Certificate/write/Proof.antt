@@ -4,15 +4,6 @@ use borrow.Author.Needs.{needs}
 use Rattle.records.proofs.Certificate.write.Statement.{statement}
 use Rattle.records.proofs.Certificate.write.Tie as tie
 
-write-small-requires : tie.Need-write-small-requires
-write-small-requires c κs = search needs
-
-write-words-requires : tie.Need-write-words-requires
-write-words-requires c κs = search needs
-
-same-length : tie.Need-same-length
-same-length c = search needs
-
 returns : tie.Need-returns
 returns c =
     let w2 = c .before .before in
@@ -20,4 +11,4 @@ returns c =
     rw (w2 .write-words .ensures, w1 .write-small .ensures) (put-next _ _ _ _ (omega arith))
 
 pub write-spec : {M : Type 1} → statement M
-write-spec = tie.close (tie.spec write-small-requires write-words-requires same-length returns)
+write-spec = tie.close (tie.spec (λ c κs. search needs) (λ c κs. search needs) (λ c. search needs) returns)

@@ -3,12 +3,9 @@ use borrow.Author.Needs.{needs}
 use Rattle.records.proofs.image.clock.Statement.{statement}
 use Rattle.records.proofs.image.clock.Tie as tie
 
-clock-requires : tie.Need-clock-requires
-clock-requires c κs = search needs
-
 returns : tie.Need-returns
 unfolding decode
 returns c = search needs
 
 pub clock-spec : {M : Type 1} → statement M
-clock-spec = tie.close (tie.spec clock-requires returns)
+clock-spec = tie.close (tie.spec (λ c κs. search needs) returns)

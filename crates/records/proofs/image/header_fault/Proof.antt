@@ -15,32 +15,17 @@ use Rattle.records.proofs.image.settings_fault.Reads as settings-fault-
 returns : tie.Need-returns
 returns c = too-short _ (omega arith)
 
-version-requires : tie.Need-version-requires
-version-requires c κs = search needs
-
 returns-2 : tie.Need-returns-2
 returns-2 c = wrong-version _ (omega arith) (omega arith)
-
-certificate-slots-requires : tie.Need-certificate-slots-requires
-certificate-slots-requires c κs = search needs
 
 returns-3 : tie.Need-returns-3
 returns-3 c = many-certificates _ (omega arith) (omega arith) (omega arith)
 
-card-count-requires : tie.Need-card-count-requires
-card-count-requires c κs = search needs
-
 returns-4 : tie.Need-returns-4
 returns-4 c = many-cards _ (omega arith) (omega arith) (omega arith) (omega arith)
 
-executable-slots-requires : tie.Need-executable-slots-requires
-executable-slots-requires c κs = search needs
-
 returns-5 : tie.Need-returns-5
 returns-5 c = many-executables _ (omega arith) (omega arith) (omega arith) (omega arith) (omega arith)
-
-settings-fault-requires : tie.Need-settings-fault-requires
-settings-fault-requires c κs = search needs
 
 returns-6 : tie.Need-returns-6
 returns-6 c = c .settings-fault .ensures ∙ sym (counts-right _ (omega arith) (omega arith) (omega arith) (omega arith) (omega arith))
@@ -50,13 +35,13 @@ header-fault-spec =
     tie.close
     (tie.spec
     returns
-    version-requires
+    (λ c κs. search needs)
     returns-2
-    certificate-slots-requires
+    (λ c κs. search needs)
     returns-3
-    card-count-requires
+    (λ c κs. search needs)
     returns-4
-    executable-slots-requires
+    (λ c κs. search needs)
     returns-5
-    settings-fault-requires
+    (λ c κs. search needs)
     returns-6)

@@ -8,12 +8,9 @@ returns : tie.Need-returns
 unfolding framed
 returns c = simp (lt-leb _ _ (c .if1 .taken))
 
-header-fits-requires : tie.Need-header-fits-requires
-header-fits-requires c κs = search needs
-
 returns-2 : tie.Need-returns-2
 unfolding framed
 returns-2 c = simp (le-leb _ _ (c .before .if1 .left)) (c .header-fits .ensures)
 
 pub is-framed-spec : {M : Type 1} → statement M
-is-framed-spec = tie.close (tie.spec returns header-fits-requires returns-2)
+is-framed-spec = tie.close (tie.spec returns (λ c κs. search needs) returns-2)

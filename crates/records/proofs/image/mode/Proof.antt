@@ -3,12 +3,9 @@ use borrow.Author.Needs.{needs}
 use Rattle.records.proofs.image.mode.Statement.{statement}
 use Rattle.records.proofs.image.mode.Tie as tie
 
-mode-requires : tie.Need-mode-requires
-mode-requires c κs = search needs
-
 returns : tie.Need-returns
 unfolding decode
 returns c = search needs
 
 pub mode-spec : {M : Type 1} → statement M
-mode-spec = tie.close (tie.spec mode-requires returns)
+mode-spec = tie.close (tie.spec (λ c κs. search needs) returns)

@@ -11,29 +11,17 @@ use Rattle.records.proofs.Header.blank.Reads as blank-reads
 use Rattle.records.proofs.Header.mode.Reads as mode-reads
 use Rattle.records.proofs.image.parts_fault.Reads as parts-fault-reads
 
-action-count-requires : tie.Need-action-count-requires
-action-count-requires c κs = search needs
-
 returns : tie.Need-returns
 returns c = no-action _ (omega arith)
 
 returns-2 : tie.Need-returns-2
 returns-2 c = many-actions _ (omega arith)
 
-mode-requires : tie.Need-mode-requires
-mode-requires c κs = search needs
-
 returns-3 : tie.Need-returns-3
 returns-3 c = wrong-mode _ (omega arith) (omega arith) (omega arith)
 
-blank-requires : tie.Need-blank-requires
-blank-requires c κs = search needs
-
 returns-4 : tie.Need-returns-4
 returns-4 c = wrong-blank _ (omega arith) (omega arith) (omega arith) (omega arith)
-
-parts-fault-requires : tie.Need-parts-fault-requires
-parts-fault-requires c κs = search needs
 
 returns-5 : tie.Need-returns-5
 returns-5 c = c .parts-fault .ensures ∙ sym (settings-right _ (omega arith) (omega arith) (omega arith) (omega arith))
@@ -42,12 +30,12 @@ pub settings-fault-spec : {M : Type 1} → statement M
 settings-fault-spec =
     tie.close
     (tie.spec
-    action-count-requires
+    (λ c κs. search needs)
     returns
     returns-2
-    mode-requires
+    (λ c κs. search needs)
     returns-3
-    blank-requires
+    (λ c κs. search needs)
     returns-4
-    parts-fault-requires
+    (λ c κs. search needs)
     returns-5)

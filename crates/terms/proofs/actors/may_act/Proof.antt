@@ -31,18 +31,6 @@ by-table t r k d a hk hd ha =
     let of-d = below 4 (of-domain t k) of-k d hd in
     same-is (says t k d a) (may-act k d a) (below 5 (of-actor t k d) of-d a ha)
 
-mul-result : tie.Need-mul-result
-mul-result c = search needs
-
-index-1-result : tie.Need-index-1-result
-index-1-result c = search needs
-
-index-2-result : tie.Need-index-2-result
-index-2-result c = search needs
-
-shr-result : tie.Need-shr-result
-shr-result c = search needs
-
 -- the table of the code
 actors : List (List ℕ)
 actors =
@@ -69,4 +57,4 @@ unfolding may-act actors
 returns c = by-table actors tt _ _ _ (c .before .pre .0) (c .before .pre .1) (c .before .pre .2)
 
 pub may-act-spec : {M : Type 1} → statement M
-may-act-spec = tie.close (tie.spec mul-result index-1-result index-2-result shr-result returns)
+may-act-spec = tie.close (tie.spec (λ c. search needs) (λ c. search needs) (λ c. search needs) (λ c. search needs) returns)

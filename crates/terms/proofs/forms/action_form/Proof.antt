@@ -3,21 +3,9 @@ use Rattle.terms.proofs.FormTests.{action-form-is}
 use Rattle.terms.proofs.forms.action_form.Statement.{statement}
 use Rattle.terms.proofs.forms.action_form.Tie as tie
 
-cast-result : tie.Need-cast-result
-cast-result c = search needs
-
-cast-result-2 : tie.Need-cast-result-2
-cast-result-2 c = search needs
-
-seldom-requires : tie.Need-seldom-requires
-seldom-requires c κs = search needs
-
-add-result : tie.Need-add-result
-add-result c = search needs
-
 returns : tie.Need-returns
 returns c = λ p q. action-form-is p (c .before .before .before .before .args .e) _ (c .seldom .ensures .0) _ q
 
 pub action-form-spec : {M : Type 1} → statement M
 action-form-spec =
-    tie.close (tie.spec cast-result cast-result-2 seldom-requires add-result returns)
+    tie.close (tie.spec (λ c. search needs) (λ c. search needs) (λ c κs. search needs) (λ c. search needs) returns)

@@ -6,30 +6,6 @@ use Rattle.terms.proofs.Listed.{past-eight}
 use Rattle.terms.proofs.forms.listed_id.Statement.{statement}
 use Rattle.terms.proofs.forms.listed_id.Tie as tie
 
-cast-result : tie.Need-cast-result
-cast-result c = search needs
-
-cast-result-2 : tie.Need-cast-result-2
-cast-result-2 c = search needs
-
-cast-result-3 : tie.Need-cast-result-3
-cast-result-3 c = search needs
-
-cast-result-4 : tie.Need-cast-result-4
-cast-result-4 c = search needs
-
-cast-result-5 : tie.Need-cast-result-5
-cast-result-5 c = search needs
-
-cast-result-6 : tie.Need-cast-result-6
-cast-result-6 c = search needs
-
-cast-result-7 : tie.Need-cast-result-7
-cast-result-7 c = search needs
-
-cast-result-8 : tie.Need-cast-result-8
-cast-result-8 c = search needs
-
 returns : tie.Need-returns
 returns c = ap (λ n. getD (eight (c .before .before .args .e)) n 0) (sym (c .before .match .keys1))
 
@@ -64,14 +40,8 @@ pub listed-id-spec : {M : Type 1} → statement M
 listed-id-spec =
     tie.close
     (tie.spec
-    cast-result
-    cast-result-2
-    cast-result-3
-    cast-result-4
-    cast-result-5
-    cast-result-6
-    cast-result-7
-    cast-result-8
+    (λ c. search needs) (λ c. search needs) (λ c. search needs) (λ c. search needs) (λ c. search needs)
+    (λ c. search needs) (λ c. search needs) (λ c. search needs)
     returns
     returns-2
     returns-3

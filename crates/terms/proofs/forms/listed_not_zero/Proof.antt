@@ -19,14 +19,8 @@ Inv-loop e n i₀ i = (i ≤ n) × (n ≡ e .fourth) × (all (λ m. not (eqb m 0
 abbrev μ-loop : tie.MeasureT-loop
 μ-loop e n i₀ i = n - i
 
-cast-n : tie.Need-cast-n Inv-loop μ-loop
-cast-n c = search needs
-
 loop-holds : tie.Need-loop-holds Inv-loop μ-loop
 loop-holds c = (search needs, search needs, refl)
-
-listed-id-requires : tie.Need-listed-id-requires Inv-loop μ-loop
-listed-id-requires c κs = search needs
 
 returns : tie.Need-returns Inv-loop μ-loop
 returns c =
@@ -39,9 +33,6 @@ returns c =
 
 add-i : tie.Need-add-i Inv-loop μ-loop
 add-i c = omega (arith, c .before .before .before .before .struct-known .given)
-
-loop-less : tie.Need-loop-less Inv-loop μ-loop
-loop-less c = search needs
 
 loop-again : tie.Need-loop-again Inv-loop μ-loop
 loop-again c =
@@ -67,11 +58,11 @@ listed-not-zero-spec =
     (tie.spec
     Inv-loop
     μ-loop
-    cast-n
+    (λ c. search needs)
     loop-holds
-    listed-id-requires
+    (λ c κs. search needs)
     returns
     add-i
-    loop-less
+    (λ c. search needs)
     loop-again
     returns-2)

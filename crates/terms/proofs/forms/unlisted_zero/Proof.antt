@@ -15,26 +15,14 @@ Inv-loop e i₀ i = (i ≤ 8) × (all-zero (drop i (eight e)) ≡ all-zero (unli
 abbrev μ-loop : tie.MeasureT-loop
 μ-loop e i₀ i = 8 - i
 
-cast-i : tie.Need-cast-i Inv-loop μ-loop
-cast-i c = search needs
-
 loop-holds : tie.Need-loop-holds Inv-loop μ-loop
 loop-holds c = (search needs, refl)
-
-listed-id-requires : tie.Need-listed-id-requires Inv-loop μ-loop
-listed-id-requires c κs = search needs
 
 returns : tie.Need-returns Inv-loop μ-loop
 returns c =
     let z = c .before .before .before in
     let e = z .before .before .args .e in
     zero-stops (eight e) (z .loop .i) _ (z .loop .inv .1) (omega arith) (λ y. c .if1 .taken (c .before .listed-id .ensures ∙ y))
-
-add-i : tie.Need-add-i Inv-loop μ-loop
-add-i c = search needs
-
-loop-less : tie.Need-loop-less Inv-loop μ-loop
-loop-less c = search needs
 
 loop-again : tie.Need-loop-again Inv-loop μ-loop
 loop-again c =
@@ -51,11 +39,10 @@ unlisted-zero-spec =
     (tie.spec
     Inv-loop
     μ-loop
-    cast-i
+    (λ c. search needs)
     loop-holds
-    listed-id-requires
+    (λ c κs. search needs)
     returns
-    add-i
-    loop-less
+    (λ c. search needs) (λ c. search needs)
     loop-again
     returns-2)
