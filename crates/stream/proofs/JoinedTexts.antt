@@ -1,12 +1,12 @@
 -- Texts put one behind the other are one text, and how long they are at most. Assumes nothing.
 use Prim.Native.Nat.{ℕ, _+_, _≤_}
 use mathlib.Core.List.{List, [], _∷_, _++_}
-use mathlib.Core.Path.{_≡_, ap, ap₂, _∙_}
-use native.Mathlib.Nat.{zero-add}
+use mathlib.Core.Path.{_≡_, sym, ap, ap₂, _∙_}
+use native.Mathlib.Nat.{add-zero, zero-add}
 use native.Mathlib.Omega.{arith}
 use lib.ListN.{length, length-append}
 use Rattle.octets.specs.Octets.{put}
-use Rattle.octets.proofs.ByteLaws.{length-put}
+use Rattle.octets.proofs.ByteLaws.{put-none, length-put}
 use Rattle.records.proofs.Puts.{put-next}
 use Rattle.stream.specs.Decimal.{most-digits, decimal, column}
 use Rattle.rules.specs.declared.Answer.{Answer}
@@ -22,6 +22,14 @@ pub then : (l : List ℕ) (i : ℕ) {s t : List ℕ} {j k : ℕ} (xs ys : List �
 then l i xs ys h a b =
     let n = length-append xs ys in
     (b .0 ∙ ap₂ (λ (s : List ℕ) (j : ℕ). put s j ys) (a .0) (a .1) ∙ put-next l i xs ys h, omega (arith, a .1, b .1))
+
+-- the same text under another name
+pub said : (l : List ℕ) (i : ℕ) {text named s : List ℕ} {j : ℕ} → named ≡ text → Put l i text s j → Put l i named s j
+said l i e p = (p .0 ∙ ap (put l i) (sym e), p .1 ∙ ap (λ (t : List ℕ). i + length t) (sym e))
+
+-- nothing is put
+pub nothing : (l : List ℕ) (i : ℕ) → Put l i [] l i
+nothing l i = (sym (put-none l i), sym (add-zero i))
 
 -- a text at the start of a buffer is within it
 pub start-within : (l text : List ℕ) {s : List ℕ} {r : ℕ} → length text ≤ length l → (s ≡ put l 0 text) × (r ≡ length text) → r ≤ length s

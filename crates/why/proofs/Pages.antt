@@ -9,9 +9,8 @@ use Rattle.octets.proofs.ByteLaws.{join, be-skip}
 use Rattle.records.specs.Phone.{joined}
 use Rattle.explanations.specs.Why.{Line, line}
 use Rattle.reasons.specs.Lines.{line-size, line-bytes, with-lines}
-use Rattle.stream.proofs.JoinedTexts.{Put, then}
+use Rattle.stream.proofs.JoinedTexts.{Put, then, said, nothing}
 use Rattle.why.specs.SentenceText.{sentence, page, line-at, lines-said}
-use Rattle.why.proofs.Sentences.{said, nothing}
 
 -- the id of the last line, or that above the first where there is none
 abbrev pub last-id : ℕ → List Line → ℕ

@@ -3,14 +3,11 @@ use Prim.Native.Nat.{ℕ, _+_, _≤_}
 use mathlib.Core.Bool.{Bool, true, false, cond}
 use mathlib.Core.List.{List, [], _++_}
 use mathlib.Core.Logic.{_≢_}
-use mathlib.Core.Path.{_≡_, refl, sym, ap, _∙_}
-use native.Mathlib.Nat.{add-zero}
+use mathlib.Core.Path.{_≡_, refl}
 use native.Mathlib.Omega.{arith}
 use borrow.Author.Tests.{ne-eqb}
 use lib.Dec.{eqb}
 use lib.ListN.{length, length-append}
-use Rattle.octets.specs.Octets.{put}
-use Rattle.octets.proofs.ByteLaws.{put-none}
 use Rattle.explanations.specs.Why.{Line, line, said-link, said-unsigned, said-unheld, said-untrusted}
 use Rattle.explanations.specs.Why.{said-absent, said-invalid, said-disabled, said-past, said-unserved}
 use Rattle.stream.specs.Decimal.{most-digits, decimal}
@@ -19,14 +16,6 @@ use Rattle.stream.proofs.JoinedTexts.{Put, then}
 use Rattle.why.specs.SentenceText.{certificate, application, key-of-none, ended, is-a-root, is-verified-by, is-untrusted, is-unsigned}
 use Rattle.why.specs.SentenceText.{is-absent, is-invalid, is-disabled, is-past, is-unserved}
 use Rattle.why.specs.SentenceText.{about, link-sentence, reason-sentence, sentence, longest-sentence}
-
--- the same text under another name
-pub said : (l : List ℕ) (i : ℕ) {text named s : List ℕ} {j : ℕ} → named ≡ text → Put l i text s j → Put l i named s j
-said l i e p = (p .0 ∙ ap (put l i) (sym e), p .1 ∙ ap (λ (t : List ℕ). i + length t) (sym e))
-
--- nothing is put
-pub nothing : (l : List ℕ) (i : ℕ) → Put l i [] l i
-nothing l i = (sym (put-none l i), sym (add-zero i))
 
 -- ---- a number between its words
 

@@ -1,7 +1,7 @@
 use native.Mathlib.Omega.{arith}
-use Rattle.stream.proofs.JoinedTexts.{then}
 use Rattle.why.specs.SentenceText.{certificate, ended, is-verified-by, about}
-use Rattle.why.proofs.Sentences.{said, about-ends, link-first, link-next}
+use Rattle.stream.proofs.JoinedTexts.{then, said}
+use Rattle.why.proofs.Sentences.{about-ends, link-first, link-next}
 use borrow.Author.Needs.{needs}
 use Rattle.why.proofs.put_link.Statement.{statement}
 use Rattle.why.proofs.put_link.Tie as tie

@@ -2,7 +2,8 @@ use Prim.Native.Nat.{ℕ}
 use mathlib.Core.Path.{ap}
 use Rattle.explanations.specs.Why.{line}
 use Rattle.why.specs.SentenceText.{sentence}
-use Rattle.why.proofs.Sentences.{said, sentence-reason}
+use Rattle.stream.proofs.JoinedTexts.{said}
+use Rattle.why.proofs.Sentences.{sentence-reason}
 use borrow.Author.Needs.{needs}
 use Rattle.why.proofs.put_sentence.Statement.{statement}
 use Rattle.why.proofs.put_sentence.Tie as tie
