@@ -43,6 +43,10 @@ other-ends a b n s h = record { within = s .within; within-other = s .within-oth
 pub byte-differs : (a b : List ℕ) (n : ℕ) → Same-to a b n → getD a n 0 ≢ getD b n 0 → First-difference a b n
 byte-differs a b n s h = record { within = s .within; within-other = s .within-other; before-it = s .before-it; at-it = λ x y. h }
 
+-- the same text under another name
+pub same-text : {a b want : List ℕ} {r : Bool} → a ≡ b → Differ a want r → Differ b want r
+same-text e d = record { same = λ h. sym e ∙ d .same h; other = λ h p. d .other h (e ∙ p) }
+
 -- no difference before both ends
 pub same-to-the-end : (a b : List ℕ) (n : ℕ) → First-difference a b n → n ≡ length a → n ≡ length b → Differ a b false
 same-to-the-end a b n d p q =

@@ -1,5 +1,5 @@
 // What `bench` would write of the answers of a stored case, held against what is stored, and so the image afterwards: what
-// differs is said, and what the cases covered is counted and said.
+// differs is said.
 use libc::STDOUT_FILENO;
 use records::Card;
 use records::Certificate;
@@ -9,10 +9,12 @@ use records::Header;
 use records::Row;
 use rules::Answer;
 ghost use Prim.Native.Nat.{_+_, _≤_, _<_};
-ghost use mathlib.Core.Bool.{true, false};
+ghost use mathlib.Core.Bool.{true};
 ghost use mathlib.Core.Path.{_≡_};
-ghost use lib.ListN.{length};
+ghost use lib.ListN.{length, take};
+ghost use Rattle.octets.specs.Octets.{put};
 ghost use Rattle.differences.specs.Compared.{First-difference, Differ};
+ghost use Rattle.differences.specs.WrittenAnswers.{answer-of, told-line, opened-line, kind-at, text-room, written};
 ghost use Rattle.stream.specs.PrintedLines.{longest-line};
 
 // The ways: a run with room for every answer, runs with room for seven answers each, and a step for each event.
@@ -21,17 +23,6 @@ pub enum Way {
     Pieces,
     Steps,
 }
-
-const KINDS: usize = 16;
-
-const CODES: usize = 17;
-// Behind the counts by kind and code: those by domain and links, of verified applications and of granted requests.
-const VERIFIED: usize = 272;
-
-const GRANTED: usize = 292;
-
-// So many counts there are.
-pub const COUNTS: usize = 312;
 
 fn say(text: &[u8]) {
     io::write_all(STDOUT_FILENO, text);
@@ -43,72 +34,17 @@ fn say_number(n: u64) {
 
 // ---- an answer
 
-// The lowest byte of a number, shifted by so many bits.
-fn byte_of(told: u64, shift: u32) -> u8
-    requires { ⌜ shift < 64 ⌝ }
+// The parts of an answer that is told as one number, as bindings/monitor.h takes them apart.
+pub fn answer_of(told: u64) -> Answer
+    ensures { λ r. ⌜ r ≡ answer-of told ⌝ }
 {
-    ((told >> shift) % 256) as u8
-}
-
-// The parts of an answer, as bindings/monitor.h takes them apart.
-fn answer_of(told: u64) -> Answer {
     Answer {
-        code: byte_of(told, 16),
-        domain: byte_of(told, 8),
-        links: byte_of(told, 0),
-        rule: byte_of(told, 24),
+        code: ((told >> 16) % 256) as u8,
+        domain: ((told >> 8) % 256) as u8,
+        links: (told % 256) as u8,
+        rule: ((told >> 24) % 256) as u8,
         offset: ((told >> 32) % 65536) as u16,
     }
-}
-
-// ---- counts
-
-fn count(seen: &mut [u64], i: usize) {
-    if seen.len() <= i {
-        return;
-    }
-    if seen[i] < 1000000000 {
-        seen[i] += 1;
-    }
-}
-
-// Kinds that are none are counted as kind 0.
-fn row(kind: u8) -> usize
-    ensures { λ r. ⌜ r < 16 ⌝ }
-{
-    if 15 < kind {
-        return 0;
-    }
-    kind as usize
-}
-
-// Where a done event is counted by its domain and links: behind all counts where it has none.
-fn chain_row(kind: u8, code: u8) -> usize
-    ensures { λ r. ⌜ r ≤ 312 ⌝ }
-{
-    if code != 0 {
-        return COUNTS;
-    }
-    if kind == 12 {
-        return VERIFIED;
-    }
-    if kind == 15 {
-        return GRANTED;
-    }
-    COUNTS
-}
-
-// An answer that a refused image gets is not counted.
-fn count_answer(seen: &mut [u64], kind: u8, told: u64) {
-    if told >> 24 != 0 {
-        return;
-    }
-    let a = answer_of(told);
-    count(seen, row(kind) * CODES + a.code as usize);
-    count(
-        seen,
-        chain_row(kind, a.code) + a.domain as usize * 5 + a.links as usize,
-    );
 }
 
 // ---- what bench would write
@@ -117,7 +53,8 @@ fn count_answer(seen: &mut [u64], kind: u8, told: u64) {
 // event, and written once. An answer that is neither shows by its number.
 fn put_told(got: &mut [u8], at: usize, opened: u64, n: u64, kind: u8, told: u64) -> usize
     requires { ⌜ at + longest-line ≤ length (now got) ⌝ }
-    ensures { λ r. ⌜ r ≤ length (now (got .exit)) ⌝ }
+    ensures { λ _. ⌜ now (got .exit) ≡ put (now (got .entry)) at (told-line opened n kind told) ⌝ }
+    ensures { λ r. ⌜ r ≡ at + length (told-line opened n kind told) ⌝ }
 {
     let a = answer_of(told);
     if told >> 24 == 0 {
@@ -135,7 +72,8 @@ fn put_told(got: &mut [u8], at: usize, opened: u64, n: u64, kind: u8, told: u64)
 // What opening tells of an image that is refused.
 fn put_opened(got: &mut [u8], at: usize, opened: u64) -> usize
     requires { ⌜ at + longest-line ≤ length (now got) ⌝ }
-    ensures { λ r. ⌜ r ≤ length (now (got .exit)) ⌝ }
+    ensures { λ _. ⌜ now (got .exit) ≡ put (now (got .entry)) at (opened-line opened) ⌝ }
+    ensures { λ r. ⌜ r ≡ at + length (opened-line opened) ⌝ }
 {
     if opened == 0 {
         return at;
@@ -143,9 +81,10 @@ fn put_opened(got: &mut [u8], at: usize, opened: u64) -> usize
     put_told(got, at, 0, 0, 0, opened)
 }
 
-// The first byte of the i-th event.
-fn kind_of(events: &[u8], i: usize) -> u8
+// The kind of the i-th event, its first byte; 0 where there is none.
+pub fn kind_of(events: &[u8], i: usize) -> u8
     requires { ⌜ i < 4096 ⌝ }
+    ensures { λ r. ⌜ r ≡ kind-at (now (events .entry)) i ⌝ }
 {
     let at = i * Event::SIZE;
     if at < events.len() {
@@ -154,18 +93,20 @@ fn kind_of(events: &[u8], i: usize) -> u8
     0
 }
 
-// All of it, as far as there is room: how long it is. The answers are counted.
-fn write_all(got: &mut [u8], opened: u64, events: &[u8], told: &[u64], seen: &mut [u64]) -> usize
-    requires { ⌜ (length (now got) ≡ 65536) × (length (now told) ≤ 4096) ⌝ }
+// All of it put at the start of a buffer, as far as there is room: how long it is.
+fn write_answers(got: &mut [u8], opened: u64, events: &[u8], told: &[u64]) -> usize
+    requires { ⌜ (length (now got) ≡ text-room) × (length (now told) ≤ 4096) ⌝ }
+    ensures { λ r. ⌜ take r (now (got .exit)) ≡ written opened (now (events .entry)) (now (told .entry)) ⌝ }
     ensures { λ r. ⌜ r ≤ length (now (got .exit)) ⌝ }
 {
     let headed = stream::put_heading(got);
     let mut at = put_opened(got, headed, opened);
     let mut i = 0;
-    while i < told.len() && at + stream::LONGEST_LINE <= got.len() {
-        let kind = kind_of(events, i);
-        count_answer(seen, kind, told[i]);
-        at = put_told(got, at, opened, i as u64 + 1, kind, told[i]);
+    while i < told.len() {
+        if got.len() < at + stream::LONGEST_LINE {
+            return at;
+        }
+        at = put_told(got, at, opened, i as u64 + 1, kind_of(events, i), told[i]);
         i += 1;
     }
     at
@@ -361,8 +302,7 @@ pub fn image_differs(name: &[u8], way: Way, image: &[u8], want: &[u8]) -> bool
 
 // ---- the answers
 
-// Whether what would be written of the answers is not what is stored. What that is no contract says, only how long it can be:
-// a stored text that is longer differs from it.
+// Whether what would be written of the answers is not what is stored; the first line that differs is said.
 pub fn answers_differ(
     name: &[u8],
     way: Way,
@@ -370,66 +310,11 @@ pub fn answers_differ(
     events: &[u8],
     told: &[u64],
     want: &[u8],
-    seen: &mut [u64],
 ) -> bool
     requires { ⌜ length (now told) ≤ 4096 ⌝ }
-    ensures { λ r. ⌜ (r ≡ false → length (now (want .entry)) ≤ 65536) ⌝ }
+    ensures { λ r. ⌜ Differ (written opened (now (events .entry)) (now (told .entry))) (now (want .entry)) r ⌝ }
 {
     let mut got = io::large_buffer();
-    let end = write_all(&mut got, opened, events, told, seen);
+    let end = write_answers(&mut got, opened, events, told);
     text_differs(name, way, &got[..end], want)
-}
-
-// ---- what was covered
-
-fn say_count(a: usize, b: usize, times: u64) {
-    if times == 0 {
-        return;
-    }
-    say_number(a as u64);
-    say(b" ");
-    say_number(b as u64);
-    say(b" ");
-    say_number(times);
-    say(b"\n");
-}
-
-fn at(seen: &[u64], i: usize) -> u64 {
-    if i < seen.len() {
-        return seen[i];
-    }
-    0
-}
-
-// One line for each of `columns` counts that is not 0.
-fn say_row(seen: &[u64], from: usize, row: usize, columns: usize)
-    requires { ⌜ (from ≤ 1000) × (columns ≤ 17) ⌝ }
-{
-    let mut j = 0;
-    while j < columns {
-        say_count(row, j, at(seen, from + j));
-        j += 1;
-    }
-}
-
-fn say_table(seen: &[u64], from: usize, rows: usize, columns: usize)
-    requires { ⌜ (from ≤ 300) × (rows ≤ 16) × (columns ≤ 17) ⌝ }
-{
-    let mut at = from;
-    let mut i = 0;
-    while i < rows {
-        say_row(seen, at, i, columns);
-        at += columns;
-        i += 1;
-    }
-}
-
-// What the cases covered. It answers nothing and changes no buffer: there is nothing to promise but that it ends.
-pub fn report(seen: &[u64]) {
-    say(b"kind code times\n");
-    say_table(seen, 0, KINDS, CODES);
-    say(b"verified: domain links times\n");
-    say_table(seen, VERIFIED, 4, 5);
-    say(b"granted: domain links times\n");
-    say_table(seen, GRANTED, 4, 5);
 }

@@ -429,5 +429,11 @@ one-stream-put-text κs a r r′ e e′ = written
 
 -- ==== differences
 
+pub one-differences-answer-of : One-result Rattle.differences.proofs.answer_of.Reads.Learnt
+one-differences-answer-of κs a r r′ e e′ = returned
+
+pub one-differences-kind-of : One-result Rattle.differences.proofs.kind_of.Reads.Learnt
+one-differences-kind-of κs a r r′ e e′ = returned
+
 pub one-differences-tell-case : One-result Rattle.differences.proofs.tell_case.Reads.Learnt
 one-differences-tell-case κs a r r′ e e′ = returned

@@ -188,7 +188,7 @@ one-stream-put-heading κs a r r′ e e′ x y = (returned (x .1) (y .1), buffer
 pub one-stream-put-line : One-outcome Rattle.stream.proofs.put_line.Reads.Learnt (λ e. e .0 .now ∷ [])
 one-stream-put-line κs a r r′ e e′ x y = (returned (x .1) (y .1), buffer (x .0) (y .0))
 
--- ==== differences: whether two images differ
+-- ==== differences: whether two images differ, and two texts of answers
 
 one-differ : {a b : List ℕ} (r r′ : Bool) → Differ a b r → Differ a b r′ → r ≡ r′
 one-differ true true x y = refl
@@ -198,3 +198,6 @@ one-differ false true x y = absurd (y .other refl (x .same refl))
 
 pub one-differences-image-differs : One-result Rattle.differences.proofs.image_differs.Reads.Learnt
 one-differences-image-differs κs a r r′ e e′ = one-differ r r′
+
+pub one-differences-answers-differ : One-result Rattle.differences.proofs.answers_differ.Reads.Learnt
+one-differences-answers-differ κs a r r′ e e′ = one-differ r r′

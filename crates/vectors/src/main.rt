@@ -3,7 +3,9 @@
 // NAME.fin the image afterwards. With a word on its command line each case goes three ways, as callers may: one run, runs
 // with room for few answers, and single steps. These open an image again and again, so that a program that is not
 // optimised takes long.
-use differences::COUNTS;
+mod coverage;
+
+use coverage::COUNTS;
 use differences::Way;
 use libc::STDOUT_FILENO;
 use records::Event;
@@ -177,6 +179,22 @@ fn run_by(way: Way, image: &mut [u8], events: &[u8], told: &mut [u64]) -> usize 
 
 // ---- a case
 
+// Whether the answers differ; what they cover is counted.
+fn answers_differ(
+    name: &[u8],
+    way: Way,
+    opened: u64,
+    events: &[u8],
+    told: &[u64],
+    want: &[u8],
+    seen: &mut [u64],
+) -> bool
+    requires { ⌜ length (now told) ≤ 4096 ⌝ }
+{
+    coverage::count_answers(seen, events, told);
+    differences::answers_differ(name, way, opened, events, told, want)
+}
+
 // Whether the answers or the image differ one way.
 fn way_differs(
     name: &[u8],
@@ -196,7 +214,7 @@ fn way_differs(
     let mut told = [0u64; MOST_EVENTS];
     let n = run_by(way, &mut image[..size], events, &mut told);
     let m = least(n, MOST_EVENTS);
-    let a = differences::answers_differ(name, way, opened, events, &told[..m], want, seen);
+    let a = answers_differ(name, way, opened, events, &told[..m], want, seen);
     let b = differences::image_differs(name, way, &image[..size], last);
     a | b
 }
@@ -324,5 +342,5 @@ fn main() {
     let n = read_rest(cases, &mut list);
     let mut seen = [0u64; COUNTS];
     all_cases(&list[..n], 1 < os::arg_count(), &mut seen);
-    differences::report(&seen);
+    coverage::report(&seen);
 }

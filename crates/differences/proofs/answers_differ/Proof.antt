@@ -1,8 +1,8 @@
 use native.Mathlib.Omega.{arith}
-use mathlib.Core.Path.{sym, ap}
-use lib.ListN.{length}
+use mathlib.Core.Path.{sym}
 use lib.Seq.{length-take-le}
 use borrow.Author.Needs.{needs}
+use Rattle.differences.proofs.SameBytes.{same-text}
 use Rattle.differences.proofs.answers_differ.Statement.{statement}
 use Rattle.differences.proofs.answers_differ.Tie as tie
 
@@ -13,7 +13,7 @@ text-differs-requires : tie.Need-text-differs-requires
 text-differs-requires c κs = omega (arith, slice-aggregate-text-differs c)
 
 returns : tie.Need-returns
-returns c = λ e. omega (arith, ap length (c .text-differs .ensures .same e), slice-aggregate-text-differs (c .before))
+returns c = same-text (c .before .before .before .write-answers .ensures .0) (c .text-differs .ensures)
 
 pub answers-differ-spec : {M : Type 1} → statement M
 answers-differ-spec =
@@ -22,5 +22,4 @@ answers-differ-spec =
     (λ c κs. search needs) (λ c. search needs) (λ c κs. search needs) (λ c. search needs)
     slice-aggregate-text-differs
     text-differs-requires
-    (λ c. search needs)
     returns)

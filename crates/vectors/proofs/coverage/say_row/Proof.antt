@@ -1,7 +1,7 @@
 use borrow.Author.Needs.{needs}
 use Prim.Native.Nat.{_-_, _≤_}
-use Rattle.differences.proofs.say_row.Statement.{statement}
-use Rattle.differences.proofs.say_row.Tie as tie
+use Rattle.vectors.proofs.coverage.say_row.Statement.{statement}
+use Rattle.vectors.proofs.coverage.say_row.Tie as tie
 
 abbrev Inv-loop : tie.InvT-loop
 Inv-loop seen from row columns j₀ j = j ≤ columns

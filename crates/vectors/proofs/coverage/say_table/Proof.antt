@@ -1,10 +1,10 @@
 use borrow.Author.Needs.{needs}
 use Prim.Native.Nat.{_-_, _≤_, _+_, _*_}
-use Rattle.differences.proofs.say_table.Statement.{statement}
-use Rattle.differences.proofs.say_table.Tie as tie
+use Rattle.vectors.proofs.coverage.say_table.Statement.{statement}
+use Rattle.vectors.proofs.coverage.say_table.Tie as tie
 
 abbrev Inv-loop : tie.InvT-loop
-Inv-loop seen from rows columns at₀ i₀ at i = (at ≤ from + 17 * i) × (i ≤ rows)
+Inv-loop seen from rows columns at₀ i₀ at i = (at ≤ from + 256 * i) × (i ≤ rows)
 
 abbrev μ-loop : tie.MeasureT-loop
 μ-loop seen from rows columns at₀ i₀ at i = rows - i
