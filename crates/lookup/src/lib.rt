@@ -11,6 +11,7 @@ ghost use Rattle.lookup.specs.RecordFound.{found};
 ghost use Rattle.records.specs.Frame.{Framed};
 ghost use Rattle.records.specs.Phone.{decode};
 ghost use Rattle.rules.specs.Codes.{has-id, is-executable};
+ghost use Rattle.rules.specs.Words.{first-place};
 ghost use Rattle.rules.specs.ImageRules.{has-valid-operator, in-card-table, known-place, operator-of, valid-in};
 
 // A record looked for: the slot where it stands, or nowhere.
@@ -118,6 +119,22 @@ pub enum CertificateRoom {
     Free(usize),
 }
 
+// The first slot with this id, or the number of slots. A number and no `Found`: with that the sweep that asks takes an instruction a slot more.
+fn first_place(s: &[u8], id: u16) -> usize
+    requires { ⌜ Framed (now s) ⌝ }
+    ensures { λ r. ⌜ r ≡ first-place (has-id id) (decode (now (s .entry)) .trust .certificates) ⌝ }
+{
+    let slots = image::certificate_slots(s);
+    let mut i: usize = 0;
+    while i < slots {
+        if image::certificate_has_id(s, i, id) {
+            return i;
+        }
+        i += 1;
+    }
+    slots
+}
+
 // Whether c has the key in another domain. Most keys differ in their low byte, so that is asked first.
 fn in_another(c: Certificate, key: u32, domain: u8) -> bool
     ensures { λ r. ⌜ r ≡ in-another key domain c ⌝ }
@@ -143,14 +160,10 @@ pub fn certificate_room(s: &[u8], id: u16, key: u32, domain: u8) -> CertificateR
         }
         if in_another(c, key, domain) {
             // An id that is taken is told first, and the slots below have not been asked.
-            match certificate_slot(s, id) {
-                Found::At(_) => {
-                    return CertificateRoom::Taken;
-                }
-                Found::Nowhere => {
-                    return CertificateRoom::Elsewhere;
-                }
+            if first_place(s, id) < slots {
+                return CertificateRoom::Taken;
             }
+            return CertificateRoom::Elsewhere;
         }
         if c.id != 0 {
             continue;

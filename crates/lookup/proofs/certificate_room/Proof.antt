@@ -11,8 +11,7 @@ use Rattle.rules.specs.Words.{any, first-place}
 use Rattle.rules.specs.Codes.{has-id}
 use Rattle.rules.proofs.Loops.{any-back, any-back-done, any-end}
 use Rattle.lookup.specs.RoomForOne.{in-another}
-use Rattle.rules.proofs.Places.{place-back-here, place-back, place-back-done, place-back-end, somewhere}
-use Rattle.lookup.proofs.FoundSlot.{at-some, nowhere-none}
+use Rattle.rules.proofs.Places.{place-back-here, place-back, place-back-done, place-back-end, place-none, place-some, somewhere}
 use Rattle.lookup.proofs.SweptRoom.{certificate-taken, certificate-elsewhere, certificate-full, certificate-free}
 use Rattle.lookup.proofs.certificate_room.Statement.{statement}
 use Rattle.lookup.proofs.certificate_room.Tie as tie
@@ -59,15 +58,17 @@ returns c =
     certificate-taken _ _ _ _ (somewhere _ no-certificate _ i (omega arith) (eq-eqb _ _ same))
 
 returns-2 : tie.Need-returns-2 Inv-loop μ-loop
-returns-2 c = certificate-taken _ _ _ _ (at-some (has-id _) _ (c .before .before .certificate-slot .ensures) (c .enum-told .given .1))
+returns-2 c =
+    let z = asked (c .before .before) in
+    certificate-taken _ _ _ _ (place-some (has-id _) _ (c .before .first-place .ensures) (z .loop .inv .1) (c .if3 .taken))
 
 returns-3 : tie.Need-returns-3 Inv-loop μ-loop
 returns-3 c =
-    let k = c .before .before .before in
+    let k = c .before .before in
     let z = asked k in
     let a = z .before .before .before .args in
     let v = z .loop in
-    certificate-elsewhere _ _ _ _ (nowhere-none (has-id _) _ (c .before .before .certificate-slot .ensures) (c .enum-told2 .given .1))
+    certificate-elsewhere _ _ _ _ (place-none (has-id _) _ (c .before .first-place .ensures) (v .inv .1) (c .if3 .left))
     (somewhere (in-another (a .key) (a .domain)) no-certificate _ (v .i - 1) (omega arith)
     (ap (in-another (a .key) (a .domain)) (sym (k .before .before .before .before .certificate .ensures))
     ∙ sym (k .before .in-another .ensures) ∙ k .if2 .taken))
@@ -98,7 +99,7 @@ loop-again c =
       search needs,
       kept (c .before .before .before .before),
       apart (c .before .before),
-      place-back _ no-certificate _ (v .i - 1) (v .inv .4) (omega arith) (omega arith) (ne-eqb _ _ (λ zero. c .if3 .taken (ap (λ x. x .id) held ∙ zero))),
+      place-back _ no-certificate _ (v .i - 1) (v .inv .4) (omega arith) (omega arith) (ne-eqb _ _ (λ zero. c .if4 .taken (ap (λ x. x .id) held ∙ zero))),
     )
 
 loop-again-2 : tie.Need-loop-again-2 Inv-loop μ-loop
@@ -109,7 +110,7 @@ loop-again-2 c =
       search needs,
       kept (c .before .before .before .before),
       apart (c .before .before),
-      place-back-here _ no-certificate _ (v .i - 1) (omega arith) (eq-eqb _ _ (ap (λ x. x .id) (sym held) ∙ c .if3 .left)),
+      place-back-here _ no-certificate _ (v .i - 1) (omega arith) (eq-eqb _ _ (ap (λ x. x .id) (sym held) ∙ c .if4 .left)),
     )
 
 returns-4 : tie.Need-returns-4 Inv-loop μ-loop
@@ -120,7 +121,7 @@ returns-4 c =
     (sym (any-back-done no-certificate _ (v .i) _ (v .inv .3) (omega arith)))
     (place-back-done _ no-certificate _ (v .i) (v .inv .4) (omega arith))
     (v .inv .1)
-    (c .if4 .taken)
+    (c .if5 .taken)
 
 returns-5 : tie.Need-returns-5 Inv-loop μ-loop
 returns-5 c =
@@ -130,7 +131,7 @@ returns-5 c =
     (sym (any-back-done no-certificate _ (v .i) _ (v .inv .3) (omega arith)))
     (place-back-done _ no-certificate _ (v .i) (v .inv .4) (omega arith))
     (v .inv .1)
-    (c .if4 .left)
+    (c .if5 .left)
 
 pub certificate-room-spec : {M : Type 1} → statement M
 certificate-room-spec =
@@ -142,9 +143,8 @@ certificate-room-spec =
     loop-holds
     (λ c. search needs) (λ c κs. search needs)
     returns
-    (λ c κs. search needs) (λ c κs. search needs) (λ c. search needs)
+    (λ c κs. search needs) (λ c κs. search needs)
     returns-2
-    (λ c. search needs)
     returns-3
     (λ c. search needs)
     loop-again
