@@ -307,7 +307,7 @@ impl Opening {
 
 /// The full phone; the same with the signers last, where they are looked for longest, of those that are trusted and of all; and
 /// damaged in eight ways: each breaks one rule, and in the last record that can break it, so that all of that rule and of those
-/// before it has to be asked. The last damage is also done where all signers are last, the dearest image to open that is known.
+/// before it has to be asked. The last damage is also done where all signers are last, the dearest of these images to open.
 pub fn openings(slots: usize) -> Vec<Opening> {
     let frame = Frame::of(slots);
     let last = slots - 3;

@@ -282,20 +282,17 @@ module _ (t : Trust) (d : ℕ) (x : Executable) where
   unfolding chained-in
   chained-other h = rw (ne-eqb (x .domain) d h)
 
-  pub chained-unsigned : x .domain ≡ d → x .signing ≡ 0 → false ≡ chained-in d t x
-  unfolding chained-in chains-to within
-  chained-unsigned h z = rw (eq-eqb (x .domain) d h, eq-eqb (x .signing) 0 z)
-
-  pub chained-by : x .domain ≡ d → x .signing ≢ 0 → (b : Bool) (w : ℕ) → w ≡ good-slots t d
-      → b ≡ any-of w (λ c. eqb (c .key) (x .signing)) (t .certificates) → b ≡ chained-in d t x
+  pub chained-by : x .domain ≡ d → (b : Bool) (w : ℕ) → w ≡ good-slots t d
+      → b ≡ any-of w (λ c. eqb (c .key) (x .signing)) (t .certificates) → (not (eqb (x .signing) 0) && b) ≡ chained-in d t x
   unfolding chained-in chains-to within serves within-domain
-  chained-by h z b w e q =
-      rw (eq-eqb (x .domain) d h, ne-eqb (x .signing) 0 z)
+  chained-by h b w e q =
+      rw (eq-eqb (x .domain) d h)
+      (ap (λ k. not (eqb (x .signing) 0) && k)
       (q
       ∙ ap (λ k. any-of k (λ c. eqb (c .key) (x .signing)) (t .certificates)) e
       ∙ word-any (λ c. good 4 t c && eqb (c .domain) d) (λ c. eqb (c .key) (x .signing)) (t .certificates)
       ∙ any-same (λ c. (good 4 t c && eqb (c .domain) d) && eqb (c .key) (x .signing)) (serves (good 4 t) d (x .signing))
-      (λ c. go (good 4 t c) (eqb (c .domain) d) (eqb (c .key) (x .signing))) (t .certificates))
+      (λ c. go (good 4 t c) (eqb (c .domain) d) (eqb (c .key) (x .signing))) (t .certificates)))
     where
       go : (a b c : Bool) → ((a && b) && c) ≡ (b && c && a)
       go true true true = refl

@@ -11,6 +11,7 @@ use Rattle.records.specs.declared.Executable.{Executable}
 use Rattle.bits.specs.SlotWord.{word, any-of}
 use Rattle.rules.specs.Words.{any, find}
 use Rattle.rules.specs.Chains.{trusted-root, link, good, chains-to}
+use Rattle.chain.specs.declared.GoodByDomain.{GoodByDomain}
 use Rattle.chain.specs.declared.search.Sorted.{Sorted}
 use Rattle.chain.specs.declared.search.Level.{Level}
 
@@ -56,6 +57,15 @@ Good-beyond t d g f l n r = (k : ℕ) → Round-of k t d g f l → r ≡ within-
 -- the slots of domain d that are good
 abbrev pub good-slots : Trust → ℕ → ℕ
 good-slots t d = within-domain t d (good 4 t)
+
+-- those of each domain, and r are those of domain d
+pub record Good-by-domain (t : Trust) (g : GoodByDomain) : Type 0 where
+  pub operator : g .operator ≡ good-slots t 1
+  pub manufacturer : g .manufacturer ≡ good-slots t 2
+  pub third : g .third ≡ good-slots t 3
+
+abbrev pub Good-in : GoodByDomain → ℕ → ℕ → Type 0
+Good-in g d r = (t : Trust) → Good-by-domain t g → r ≡ good-slots t d
 
 -- ---- the search back from one key: p tells the keys that a level looks for
 

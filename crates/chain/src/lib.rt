@@ -2,25 +2,31 @@
 mod search;
 
 use records::Certificate;
+use records::Executable;
 use records::image;
 use rules::Chained;
 ghost use Prim.Native.Nat.{_<_, _≤_};
 ghost use lib.ListN.{length};
 ghost use mathlib.Core.Path.{_≡_};
 ghost use Rattle.chain.specs.Breaks.{runs-out};
-ghost use Rattle.chain.specs.SlotWords.{chained-in, good-slots, holder, slot};
+ghost use Rattle.chain.specs.SlotWords.{Good-by-domain, Good-in, good-slots, holder, slot};
 ghost use Rattle.rules.specs.AcceptedImage.{Keyed};
 ghost use Rattle.chain.specs.Settling.{Domains-known, Next-unchained, settle-in};
 ghost use Rattle.records.specs.Frame.{Framed};
 ghost use Rattle.records.specs.Phone.{decode, encode};
 ghost use lib.Dec.{T};
-ghost use Prim.Native.Nat.{min};
-ghost use Rattle.rules.specs.Words.{all};
-ghost use Rattle.rules.specs.ImageRules.{i7, i8};
+ghost use Rattle.rules.specs.ImageRules.{chained-fits, i7, i8};
 ghost use Rattle.rules.specs.Faults.{lowest, of-executables};
 ghost use Rattle.rules.specs.Chains.{chain-of, good, links};
 ghost use Rattle.rules.specs.Effects.{settle};
 ghost use Rattle.rules.specs.Words.{any};
+
+// The good slots of each domain.
+struct GoodByDomain {
+    operator: u64,
+    manufacturer: u64,
+    third: u64,
+}
 
 // The link count of a signing key for a domain.
 pub fn links_of(s: &[u8], key: u32, domain: u8) -> u8
@@ -86,6 +92,64 @@ pub fn chain_of(s: &[u8], key: u32) -> Chained
     Chained { domain, links }
 }
 
+// The good slots of all three domains, found once for all executables.
+fn good_by_domain(s: &[u8]) -> GoodByDomain
+    requires { ⌜ Framed (now s) ⌝ }
+    ensures { λ r. ⌜ Good-by-domain (decode (now (s .entry)) .trust) r ⌝ }
+{
+    GoodByDomain {
+        operator: search::good_slots(s, records::OPERATOR),
+        manufacturer: search::good_slots(s, records::MANUFACTURER),
+        third: search::good_slots(s, records::THIRD_PARTY),
+    }
+}
+
+// Those of one of them.
+fn good_in(good: GoodByDomain, domain: u8) -> u64
+    requires { ⌜ (1 ≤ domain) × (domain ≤ 3) ⌝ }
+    ensures { λ r. ⌜ Good-in good domain r ⌝ }
+{
+    if domain == records::OPERATOR {
+        return good.operator;
+    }
+    if domain == records::MANUFACTURER {
+        return good.manufacturer;
+    }
+    good.third
+}
+
+// Whether x chains to its domain, if it has one.
+fn chained_fits(s: &[u8], good: GoodByDomain, x: Executable) -> bool
+    requires { ⌜ Framed (now s) ⌝ }
+    requires { ⌜ Good-by-domain (decode (now s) .trust) good ⌝ }
+    requires { ⌜ x .domain ≤ 3 ⌝ }
+    ensures { λ r. ⌜ r ≡ chained-fits (decode (now (s .entry)) .trust) x ⌝ }
+{
+    if x.domain == records::UNTRUSTED {
+        return true;
+    }
+    search::is_chained(s, x.domain, good_in(good, x.domain), x)
+}
+
+// What I8 asks: the lowest executable that does not chain to the domain that it has, or the number of slots where there is none. One sweep
+// for all three domains, which ends at the first that it finds, so that of an image that is refused no more is asked.
+pub fn first_unchained(s: &[u8]) -> usize
+    requires { ⌜ Framed (now s) ⌝ }
+    requires { ⌜ T (i7 (decode (now s))) ⌝ }
+    ensures { λ r. ⌜ r ≡ lowest (of-executables i8 (decode (now (s .entry)))) (decode (now (s .entry)) .executables) ⌝ }
+{
+    let good = good_by_domain(s);
+    let slots = image::executable_slots(s);
+    let mut i: usize = 0;
+    while i < slots {
+        if !chained_fits(s, good, image::executable(s, i)) {
+            return i;
+        }
+        i += 1;
+    }
+    slots
+}
+
 // The first executable from a slot on that has the domain and does not chain to it, or the number of slots where there is none.
 fn next_unchained(s: &[u8], domain: u8, good: u64, from: usize) -> usize
     requires { ⌜ Framed (now s) ⌝ }
@@ -102,35 +166,6 @@ fn next_unchained(s: &[u8], domain: u8, good: u64, from: usize) -> usize
         i += 1;
     }
     slots
-}
-
-// The same of one domain alone, whose good slots are found once for all its executables.
-fn unchained_in(s: &[u8], domain: u8) -> usize
-    requires { ⌜ Framed (now s) ⌝ }
-    ensures { λ r. ⌜ r ≡ lowest (all (chained-in domain (decode (now (s .entry)) .trust))) (decode (now (s .entry)) .executables) ⌝ }
-{
-    next_unchained(s, domain, search::good_slots(s, domain), 0)
-}
-
-fn least(a: usize, b: usize) -> usize
-    ensures { λ r. ⌜ r ≡ min a b ⌝ }
-{
-    if a < b {
-        return a;
-    }
-    b
-}
-
-// What I8 asks: the lowest executable that does not chain to the domain that it has, or the number of slots where there is none.
-pub fn first_unchained(s: &[u8]) -> usize
-    requires { ⌜ Framed (now s) ⌝ }
-    requires { ⌜ T (i7 (decode (now s))) ⌝ }
-    ensures { λ r. ⌜ r ≡ lowest (of-executables i8 (decode (now (s .entry)))) (decode (now (s .entry)) .executables) ⌝ }
-{
-    let operator = unchained_in(s, records::OPERATOR);
-    let manufacturer = unchained_in(s, records::MANUFACTURER);
-    let third = unchained_in(s, records::THIRD_PARTY);
-    least(least(operator, manufacturer), third)
 }
 
 // Takes the domain of each executable of one domain whose key no good slot has.

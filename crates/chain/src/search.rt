@@ -165,10 +165,7 @@ pub fn is_chained(s: &[u8], domain: u8, good: u64, x: Executable) -> bool
     if x.domain != domain {
         return true;
     }
-    if x.signing == 0 {
-        return false;
-    }
-    holds_key(s, good, x.signing)
+    (x.signing != 0) & holds_key(s, good, x.signing)
 }
 
 fn has_key(domain: u8, key: u32, c: Certificate) -> bool

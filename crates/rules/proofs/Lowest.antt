@@ -1,9 +1,9 @@
 -- The lowest record that breaks a rule: how a loop finds it, what a rule of several parts makes of it, and what it is worth. Assumes nothing.
-use Prim.Native.Nat.{ℕ, zero, suc, _+_, _≤_, _<_, min}
-use mathlib.Core.Bool.{Bool, true, false, cond, not, _&&_, _||_}
+use Prim.Native.Nat.{ℕ, zero, suc, _+_, _≤_, _<_}
+use mathlib.Core.Bool.{Bool, true, false, cond, not, _&&_}
 use mathlib.Core.List.{List, [], _∷_, _++_}
 use mathlib.Core.Path.{_≡_, refl, sym, ap, _∙_, subst}
-use native.Mathlib.Nat.{suc-min-suc, zero-min, min-zero, le-of-suc-le-suc}
+use native.Mathlib.Nat.{le-of-suc-le-suc}
 use native.Mathlib.Numerals.{add-one}
 use native.Mathlib.Omega.{arith}
 use native.Mathlib.Decide.{decLt}
@@ -23,17 +23,6 @@ first-is (suc n) zero f h below here = rw (here (omega arith))
 first-is (suc n) (suc i) f h below here =
     ap suc (first-is n i (λ k. f (suc k)) (le-of-suc-le-suc h) (λ j l. below (suc j) (omega arith)) (λ l. here (omega arith)))
     ∙ ap (λ b. cond b 0 (suc (first-number n (λ k. f (suc k))))) (sym (below 0 (omega arith)))
-
-first-either : (n : ℕ) (f g : ℕ → Bool) → first-number n (λ k. f k || g k) ≡ min (first-number n f) (first-number n g)
-unfolding first-number
-first-either zero f g = refl
-first-either (suc n) f g =
-    go (first-number n (λ k. f (suc k))) (first-number n (λ k. g (suc k))) (f 0) (g 0) (first-either n (λ k. f (suc k)) (λ k. g (suc k)))
-  where
-    go : (a b : ℕ) {m : ℕ} (x y : Bool) → m ≡ min a b → cond (x || y) 0 (suc m) ≡ min (cond x 0 (suc a)) (cond y 0 (suc b))
-    go a b true y e = sym (zero-min _)
-    go a b false true e = sym (min-zero _)
-    go a b false false e = ap suc e ∙ sym (suc-min-suc a b)
 
 -- what it is worth: it is no larger than n, below n it passes, and what is below it does not
 record First (n r : ℕ) (f : ℕ → Bool) : Type 0 where
@@ -144,23 +133,7 @@ module _ {A : Type 0} {rule : List A → Bool} {more : List A → A → Bool} (g
       broken : lowest rule l < length l → rule l ≡ false
       broken h = let q = go h (rule l) refl in q
 
--- ---- two rules that are one
-
-pub lowest-same : {A : Type 0} (f g : List A → Bool) (l : List A) → ((i : ℕ) → f (take i l) ≡ g (take i l)) → lowest f l ≡ lowest g l
-unfolding lowest
-lowest-same f g l h = ap (first-number (length l)) (λ i k. not (h (suc k) i))
-
 -- ---- a rule of two parts
-
-pub lowest-both : {A : Type 0} (f g : List A → Bool) (l : List A) → lowest (λ l. f l && g l) l ≡ min (lowest f l) (lowest g l)
-unfolding lowest
-lowest-both f g l =
-    ap (first-number (length l)) (λ i k. either (f (take (suc k) l)) (g (take (suc k) l)) i)
-    ∙ first-either (length l) (λ i. not (f (take (suc i) l))) (λ i. not (g (take (suc i) l)))
-  where
-    either : (a b : Bool) → not (a && b) ≡ (not a || not b)
-    either true b = refl
-    either false b = refl
 
 pub both-grow : {A : Type 0} {f g : List A → Bool} {m n : List A → A → Bool} → Grows f m → Grows g n → Grows (λ l. f l && g l) (λ l x. m l x && n l x)
 both-grow {A} {f} {g} {m} {n} a b =
