@@ -68,6 +68,7 @@ enum monitor_said {
     MONITOR_SAID_UNHELD = 3,    /* an executable whose key no certificate has */
     MONITOR_SAID_UNTRUSTED = 4, /* an executable in domain 0 despite a chain */
     /* a certificate that is not good, and why */
+    MONITOR_SAID_RECOVERY = 10, /* it is a recovery key */
     MONITOR_SAID_ABSENT = 11,   /* it is on an absent card */
     MONITOR_SAID_INVALID = 12,  /* it is marked invalid */
     MONITOR_SAID_DISABLED = 13, /* it is disabled */

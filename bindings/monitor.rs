@@ -52,7 +52,9 @@ pub mod said {
     pub const UNHELD: u8 = 3;
     /// An executable in domain 0 despite a chain.
     pub const UNTRUSTED: u8 = 4;
-    /// A certificate that is not good: it is on an absent card.
+    /// A certificate that is not good: it is a recovery key.
+    pub const RECOVERY: u8 = 10;
+    /// It is on an absent card.
     pub const ABSENT: u8 = 11;
     /// It is marked invalid.
     pub const INVALID: u8 = 12;

@@ -12,7 +12,9 @@ const OPERATOR_ROOT: u32 = 1000;
 const MANUFACTURER_ROOT: u32 = 2000;
 const THIRD_PARTY_ROOT: u32 = 3000;
 const PHONE_OPERATOR_ROOT: u32 = 1500;
+const RECOVERY_KEY: u32 = 60_002;
 const ROOT_IDS: [u16; 4] = [1, 2, 3, 4];
+const OWNER: u32 = 501;
 
 /// A certificate, in the order of its fields.
 #[derive(Clone, Copy)]
@@ -48,11 +50,11 @@ fn put32(to: &mut Vec<u8>, number: u32) {
 }
 
 fn root(id: u16, place: u16, domain: u8, mark: u8, key: u32) -> Certificate {
-    Certificate { id, place, kind: 0, domain, mark, key, by: 0, owner: 501, expiry: 0 }
+    Certificate { id, place, kind: 0, domain, mark, key, by: 0, owner: OWNER, expiry: 0 }
 }
 
 fn issued(id: u16, place: u16, domain: u8, key: u32, by: u32) -> Certificate {
-    Certificate { id, place, kind: 1, domain, mark: 1, key, by, owner: 501, expiry: 100_000 }
+    Certificate { id, place, kind: 1, domain, mark: 1, key, by, owner: OWNER, expiry: 100_000 }
 }
 
 /// Four roots, and chains of two, three and four links in all three domains under them; two slots are free.
@@ -193,6 +195,23 @@ fn clock(to: u32) -> Vec<u8> {
     event(1, 0, 0, 0, to)
 }
 
+/// The manufacturer's recovery key, beside the root of its owner.
+fn install_recovery(id: u16) -> Vec<u8> {
+    let mut all = event(5, 3, id, 0, RECOVERY_KEY);
+    all[6..8].copy_from_slice(&[2, 2]);
+    all[16..20].copy_from_slice(&OWNER.to_be_bytes());
+    all
+}
+
+/// The manufacturer's root gets another key, and everything below it is to be settled.
+fn replace(recovery: u16) -> Vec<u8> {
+    let mut all = event(16, 3, ROOT_IDS[2], recovery, 60_001);
+    all[12..16].copy_from_slice(&RECOVERY_KEY.to_be_bytes());
+    all[16..20].copy_from_slice(&OWNER.to_be_bytes());
+    all[20..24].copy_from_slice(&100_000u32.to_be_bytes());
+    all
+}
+
 fn install_certificate(id: u16) -> Vec<u8> {
     let mut all = event(5, 1, id, 0, 60_000);
     all[6..8].copy_from_slice(&[1, 3]);
@@ -284,7 +303,9 @@ pub fn rows(slots: usize) -> Vec<Row> {
         done("request", request(trusted, 0)),
         done("request-untrusted", request(untrusted, 0)),
         refused("request-refused", request(untrusted, 2), 15),
-        refused("malformed", event(16, 0, 1, 0, 0), 2),
+        // The recovery key takes the first of the two free slots, so that it stands last.
+        after("replace", install_recovery(60_000), replace(60_000)),
+        refused("malformed", event(17, 0, 1, 0, 0), 2),
         Row { name: "verify-worst", image: 1, events: verify(last), before: 0, code: Some(0) },
         Row { name: "clock-worst", image: 1, events: clock(CLOCK + 1), before: 0, code: Some(0) },
         Row { name: "lesson", image: 0, events: lesson(slots).concat(), before: 0, code: None },
@@ -399,18 +420,20 @@ impl Dice {
 /// The fields of each record, by their first bytes and with the record's size at the end.
 const FIELDS: [&[usize]; 4] = [&[0, 2, 4, 5, 6, 7, 8, 12, 16, 20, 24], &[0, 2, 4, 8], &[0, 2, 3, 4, 8, 12], &[0, 1, 2, 3, 4]];
 
-/// An image damaged in one to three places: a byte changed, a record or a field of it written over another, or the end moved.
+/// An image damaged in one to three places: a byte changed, a record or a field of it written over another, a certificate turned
+/// into a recovery key, or the end moved.
 pub fn damaged(which: usize, slots: usize, dice: &mut Dice) -> Vec<u8> {
     let frame = Frame::of(slots);
     let mut image = image(which, slots);
     for _ in 0..1 + dice.below(3) {
-        match dice.below(16) {
+        match dice.below(17) {
             0 => image.truncate(dice.below(image.len() + 1)),
             1 => image.push(dice.below(2) as u8),
             2 => poke(&mut image, dice.below(40), dice.below(4) as u8),
             3 => poke(&mut image, dice.below(frame.total), dice.below(256) as u8),
             4..=6 => poke(&mut image, dice.below(frame.total), dice.below(4) as u8),
             7 => copy_root(&mut image, &frame, dice),
+            16 => make_recovery(&mut image, &frame, dice),
             way => {
                 let table = [0, 0, 0, 0, 1, 2, 2, 3][way - 8];
                 copy_field(&mut image, &frame, table, dice);
@@ -433,6 +456,29 @@ fn copy_root(image: &mut [u8], frame: &Frame, dice: &mut Dice) {
     if frame.cards_at <= image.len() {
         image.copy_within(from + 2..from + 8, to + 2);
         image.copy_within(from + 12..from + 24, to + 12);
+    }
+}
+
+/// Turns a certificate into a recovery key, or into one but for a field: often the last slot, which is free in the full phone.
+fn make_recovery(image: &mut [u8], frame: &Frame, dice: &mut Dice) {
+    let slot = [frame.slots - 1, dice.below(frame.slots)][dice.below(2)];
+    let at = frame.certificate(slot);
+    if frame.cards_at > image.len() {
+        return;
+    }
+    if image[at..at + 24] == [0; 24] {
+        image[at..at + 2].copy_from_slice(&60_000u16.to_be_bytes());
+        image[at + 8..at + 12].copy_from_slice(&RECOVERY_KEY.to_be_bytes());
+    }
+    image[at + 2..at + 8].copy_from_slice(&[0, 0, 2, 1 + dice.below(2) as u8, 0, 1]);
+    image[at + 12..at + 16].fill(0);
+    match dice.below(10) {
+        0 => image[at + 3] = 1,
+        1 => image[at + 5] = 3,
+        2 => image[at + 6] = 1,
+        3 => image[at + 7] = 0,
+        4 => image[at + 15] = 1,
+        _ => (),
     }
 }
 

@@ -76,6 +76,7 @@ mod event {
 
 const ROOT: u8 = 0;
 const ISSUED: u8 = 1;
+const RECOVERY: u8 = 2;
 
 const OPERATOR: u8 = 1;
 const MANUFACTURER: u8 = 2;
@@ -104,9 +105,10 @@ const ANOTHER_IS_VALID: u8 = 13;
 const NO_FREE_SLOT: u8 = 14;
 const NEVER_GRANTED: u8 = 15;
 const NO_PERMISSION: u8 = 16;
+const NO_RECOVERY_KEY: u8 = 17;
 
 /// Who may act, by event kind and domain: one bit for each actor, the device in the lowest.
-const MAY_ACT: [[u8; 4]; 16] = {
+const MAY_ACT: [[u8; 4]; 17] = {
     const DEVICE: u8 = 1 << 0;
     const USER: u8 = 1 << 1;
     const OPERATOR: u8 = 1 << 2;
@@ -130,6 +132,7 @@ const MAY_ACT: [[u8; 4]; 16] = {
         [USER; 4],
         [USER; 4],
         [DEVICE; 4],
+        [0, OPERATOR, MANUFACTURER, 0],
     ]
 };
 
@@ -289,13 +292,14 @@ impl Now {
         place == 0 || place == self.card
     }
 
-    /// A trusted root, or an issued record that lacks only a good verifier. Never a free slot.
+    /// A trusted root, or an issued record that lacks only a good verifier. Never a free slot, and
+    /// never a recovery key.
     #[inline]
     fn can_be_link(self, record: &[u8]) -> bool {
-        let counts = if record[certificate::KIND] == ROOT {
-            record[certificate::MARK] == 1 && record[certificate::ENABLED] == 1
-        } else {
-            self.clock <= u32_at(record, certificate::EXPIRY)
+        let counts = match record[certificate::KIND] {
+            ROOT => record[certificate::MARK] == 1 && record[certificate::ENABLED] == 1,
+            ISSUED => self.clock <= u32_at(record, certificate::EXPIRY),
+            _ => false,
         };
         counts && self.is_present(record)
     }
@@ -634,6 +638,13 @@ fn fields_hold(record: &[u8]) -> bool {
                 && (domain != MANUFACTURER || u16_at(record, certificate::PLACE) == 0)
         }
         ISSUED => verifying_key != 0 && mark == 1 && enabled == 1,
+        RECOVERY => {
+            verifying_key == 0
+                && mark == 0
+                && enabled == 1
+                && domain != THIRD_PARTY
+                && u16_at(record, certificate::PLACE) == 0
+        }
         _ => false,
     };
     kind_holds
@@ -753,6 +764,7 @@ impl<'a> Phone<'a> {
             13 => self.give_permission(event),
             14 => self.withdraw_permission(event),
             15 => self.request(event),
+            16 => self.replace(event),
             _ => Err(MALFORMED),
         }
     }
@@ -853,6 +865,7 @@ impl<'a> Phone<'a> {
         let kind_holds = match kind {
             ROOT => verifying_key == 0 && (domain != MANUFACTURER || place == 0),
             ISSUED => verifying_key != 0,
+            RECOVERY => verifying_key == 0 && domain != THIRD_PARTY && place == 0,
             _ => false,
         };
         if id == 0 || key == 0 || !kind_holds || !(OPERATOR..=THIRD_PARTY).contains(&domain) {
@@ -895,7 +908,7 @@ impl<'a> Phone<'a> {
                 1,
                 u8::from(u16_at(self.header, header::MODE) == u16::from(ENABLE_ALL)),
             ),
-            (ROOT, _) => (0, 1),
+            (ROOT | RECOVERY, _) => (0, 1),
             _ => (1, 1),
         };
         // Event and record hold their fields in the same order, but for mark and enabled.
@@ -1100,6 +1113,99 @@ impl<'a> Phone<'a> {
                 domain,
                 links(self.certificates, Now::of(self.header), domain, signing_key),
             )),
+        }
+    }
+
+    fn replace(&mut self, event: &Event) -> Outcome {
+        let id = u16_at(event, event::ID);
+        let second = u16_at(event, event::SECOND);
+        let key = u32_at(event, event::KEY);
+        if id == 0 || second == 0 || key == 0 || event[event::THIRD..event::KEY] != [0; 2] {
+            return Err(MALFORMED);
+        }
+        let mut named = (None, None);
+        let mut domain_of_key = 0;
+        for (slot, record) in certificates_in(self.certificates).enumerate() {
+            let slot_id = u16_at(record, certificate::ID);
+            if slot_id == id {
+                named.0 = Some(slot * certificate::SIZE);
+            }
+            if slot_id == second {
+                named.1 = Some(slot * certificate::SIZE);
+            }
+            // All records with one key have one domain, and a free slot has no key.
+            if u32_at(record, certificate::KEY) == key {
+                domain_of_key = record[certificate::DOMAIN];
+            }
+        }
+        let at = named.0.ok_or(UNKNOWN_ID)?;
+        let recovery_at = named.1.ok_or(UNKNOWN_ID)?;
+        let record = &self.certificates[at..at + certificate::SIZE];
+        let recovery = &self.certificates[recovery_at..recovery_at + certificate::SIZE];
+        let domain = record[certificate::DOMAIN];
+        // A third party record in either place leaves it to nobody.
+        match recovery[certificate::DOMAIN] {
+            THIRD_PARTY => check_actor(event, THIRD_PARTY)?,
+            _ => check_actor(event, domain)?,
+        }
+        let now = Now::of(self.header);
+        if !now.is_present(record) {
+            return Err(CARD_ABSENT);
+        }
+        if domain_of_key != 0 && domain_of_key != domain {
+            return Err(KEY_OF_OTHER_DOMAIN);
+        }
+        if record[certificate::KIND] != ROOT {
+            return Err(NOT_SUCH_A_ROOT);
+        }
+        let place = u16_at(record, certificate::PLACE);
+        let owner = u32_at(record, certificate::OWNER);
+        if domain == OPERATOR
+            && place == 0
+            && now.card != 0
+            && operator_of(self.cards, now.card) != Some(owner)
+        {
+            return Err(OTHER_OPERATOR);
+        }
+        let was_valid = record[certificate::MARK] == 1;
+        // I5 leaves a root that is valid already no rival.
+        if !was_valid && self.has_rival(domain, place, now.card) {
+            return Err(ANOTHER_IS_VALID);
+        }
+        let recovery_fits = recovery[certificate::KIND] == RECOVERY
+            && recovery[certificate::DOMAIN] == domain
+            && place == 0
+            && owner == u32_at(recovery, certificate::OWNER)
+            && owner == u32_at(event, event::OWNER)
+            && u32_at(event, event::VERIFYING_KEY) == u32_at(recovery, certificate::KEY);
+        if !recovery_fits {
+            return Err(NO_RECOVERY_KEY);
+        }
+        let had_the_key = u32_at(record, certificate::KEY) == key;
+        let record = &mut self.certificates[at..at + certificate::SIZE];
+        record[certificate::MARK] = 1;
+        record[certificate::KEY..certificate::VERIFYING_KEY]
+            .copy_from_slice(&event[event::KEY..event::VERIFYING_KEY]);
+        record[certificate::OWNER..].copy_from_slice(&event[event::OWNER..]);
+        // Only a key that was trusted and is gone can break a chain.
+        if was_valid && !had_the_key {
+            self.settle();
+        }
+        DONE
+    }
+
+    /// Whether another root is valid where one without a mark would become so.
+    #[inline]
+    fn has_rival(&self, domain: u8, place: u16, card: u16) -> bool {
+        match domain {
+            OPERATOR => {
+                let (on_phone, is_on_card) = valid_operator_roots(self.certificates, card);
+                is_on_card || place == 0 && on_phone.is_some()
+            }
+            MANUFACTURER => {
+                certificates_in(self.certificates).any(|other| is_valid_root(other, MANUFACTURER))
+            }
+            _ => false,
         }
     }
 

@@ -6,7 +6,7 @@
 use crate::bench::{event_records, split_stream};
 use crate::chain::{good_within, Chain, Trust, MOST_LINKS};
 use crate::events::step;
-use crate::phone::{Certificate, Phone, ISSUED};
+use crate::phone::{Certificate, Phone, ISSUED, RECOVERY};
 use crate::refusal::{open, Refusal};
 use crate::why::{explain, phone_after, Answer, Reason};
 
@@ -86,6 +86,7 @@ pub fn true_reasons(phone: &Phone, record: &Certificate) -> Vec<Reason> {
     let is_issued = record.kind == ISSUED;
     let signers = serving(phone, record.domain, record.verifying_key, MOST_LINKS - 1);
     let asked = [
+        (Reason::RecoveryKey, record.kind == RECOVERY),
         (
             Reason::AbsentCard,
             record.place != 0 && record.place != phone.card_present,

@@ -1,7 +1,8 @@
 //! Which records are good, what an executable chains to, and over how many links.
 //!
 //! Follows 01, "Chains". The recursion is the definition's own: the records good within n
-//! are found from the records good within n - 1, and within 0 nothing is good.
+//! are found from the records good within n - 1, and within 0 nothing is good. By 02, "Recovery
+//! keys", a recovery record is neither a trusted root nor a link: it is never good.
 
 use crate::phone::{Certificate, Phone, ISSUED, ROOT};
 

@@ -8,7 +8,7 @@ use std::collections::BTreeMap;
 use std::fmt::Write;
 
 use crate::bench::{run_and_watch, split_stream, Run};
-use crate::events::{Answer, REQUEST, VERIFY};
+use crate::events::{Answer, LAST_CODE, LAST_KIND, REQUEST, VERIFY};
 use crate::image_rules::{first_broken, Broken};
 use crate::phone::Phone;
 use crate::refusal::Refusal;
@@ -16,8 +16,8 @@ use crate::shown::Shown;
 use crate::text::{to_bytes, to_text};
 
 /// The row of the kind table for kinds that do not exist.
-const OTHER_KIND: usize = 16;
-const CODES: usize = 17;
+const OTHER_KIND: usize = LAST_KIND as usize + 1;
+const CODES: usize = LAST_CODE as usize + 1;
 
 /// How often each thing was reached.
 #[derive(Clone, Default, PartialEq, Eq, Debug)]
@@ -45,7 +45,7 @@ impl Counts {
     fn add_event(&mut self, record: &[u8], answer: Answer) {
         self.events += 1;
         let kind = match record.first() {
-            Some(&kind @ 1..=15) => usize::from(kind),
+            Some(&kind @ 1..=LAST_KIND) => usize::from(kind),
             _ => OTHER_KIND,
         };
         self.by_kind_and_code[kind][usize::from(answer.code)] += 1;

@@ -1,12 +1,13 @@
-//! Events: the record, the codes 2 to 16 as one ordered list of tests, and the effects.
+//! Events: the record, the codes 2 to 17 as one ordered list of tests, and the effects.
 //!
-//! Follows 01, "Events" and "What an event is told", and 02 for what goes with code 1. Each test says when its code applies;
-//! the answer is the lowest that applies. A test whose record is missing does not apply.
+//! Follows 01, "Events" and "What an event is told", and 02 for what goes with code 1 and for
+//! recovery keys. Each test says when its code applies; the answer is the lowest that applies. A
+//! test whose record is missing does not apply.
 
 use crate::chain::Trust;
 use crate::phone::{
     permission_bit, u16_at, u32_at, Certificate, Executable, Phone, DISABLE_ALL, ENABLE_ALL,
-    ENABLE_LISTED, ISSUED, MANUFACTURER, OPERATOR, ROOT, THIRD_PARTY,
+    ENABLE_LISTED, ISSUED, MANUFACTURER, OPERATOR, RECOVERY, ROOT, THIRD_PARTY,
 };
 use crate::refusal::{open, Refusal};
 
@@ -25,6 +26,12 @@ pub const VERIFY: u8 = 12;
 pub const GIVE: u8 = 13;
 pub const WITHDRAW: u8 = 14;
 pub const REQUEST: u8 = 15;
+pub const REPLACE: u8 = 16;
+/// Kinds go from 1 to this one.
+pub const LAST_KIND: u8 = REPLACE;
+
+/// Codes go from 0 to this one.
+pub const LAST_CODE: u8 = 17;
 
 pub const DEVICE: u8 = 0;
 pub const USER: u8 = 1;
@@ -180,7 +187,7 @@ type Test = fn(&Phone, &Event) -> bool;
 
 /// The lowest code that applies to a record of 24 bytes; 0 where none does.
 pub fn code_of(phone: &Phone, event: &Event) -> u8 {
-    let tests: [(u8, Test); 15] = [
+    let tests: [(u8, Test); LAST_CODE as usize - 1] = [
         (2, is_out_of_form),
         (3, names_unknown_id),
         (4, is_by_wrong_actor),
@@ -189,13 +196,14 @@ pub fn code_of(phone: &Phone, event: &Event) -> u8 {
         (7, finds_card_slot_wrong),
         (8, touches_absent_card),
         (9, installs_taken_id),
-        (10, installs_key_of_another_domain),
+        (10, brings_key_of_another_domain),
         (11, meets_another_operator),
         (12, is_about_no_fitting_root),
         (13, marks_second_valid_root),
         (14, finds_no_free_slot),
         (15, asks_for_what_never_is),
         (16, asks_without_permission),
+        (17, has_no_fitting_recovery_key),
     ];
     tests
         .iter()
@@ -205,7 +213,7 @@ pub fn code_of(phone: &Phone, event: &Event) -> u8 {
 
 /// Code 2, but for the length.
 fn is_out_of_form(phone: &Phone, event: &Event) -> bool {
-    if !(CLOCK..=REQUEST).contains(&event.kind) || event.actor > ADMINISTRATOR {
+    if !(CLOCK..=LAST_KIND).contains(&event.kind) || event.actor > ADMINISTRATOR {
         return true;
     }
     if *event != only_used_fields(event) {
@@ -220,6 +228,7 @@ fn is_out_of_form(phone: &Phone, event: &Event) -> bool {
         GIVE | WITHDRAW | REQUEST => {
             event.id == 0 || usize::from(event.second) >= phone.table.len()
         }
+        REPLACE => event.id == 0 || event.second == 0 || event.key == 0,
         _ => false,
     }
 }
@@ -261,19 +270,24 @@ fn only_used_fields(event: &Event) -> Event {
             second: event.second,
             ..named
         },
+        REPLACE => Event {
+            third: 0,
+            fourth: 0,
+            ..*event
+        },
         _ => named,
     }
 }
 
 /// The ranges of I2 for a certificate to install, those across fields too.
 fn is_certificate_in_range(event: &Event) -> bool {
-    let is_root = event.third == ROOT;
-    event.id != 0
-        && event.key != 0
-        && event.third <= 1
-        && (1..=3).contains(&event.fourth)
-        && is_root == (event.verifying_key == 0)
-        && !(is_root && event.fourth == MANUFACTURER && event.second != 0)
+    let fits_its_kind = match event.third {
+        ROOT => event.verifying_key == 0 && (event.fourth != MANUFACTURER || event.second == 0),
+        ISSUED => event.verifying_key != 0,
+        RECOVERY => event.verifying_key == 0 && event.fourth != THIRD_PARTY && event.second == 0,
+        _ => false,
+    };
+    event.id != 0 && event.key != 0 && (1..=3).contains(&event.fourth) && fits_its_kind
 }
 
 fn is_message_in_range(event: &Event) -> bool {
@@ -299,6 +313,9 @@ fn names_unknown_id(phone: &Phone, event: &Event) -> bool {
             .listed()
             .iter()
             .any(|&id| phone.certificate(id).is_none()),
+        REPLACE => [event.id, event.second]
+            .iter()
+            .any(|&id| phone.certificate(id).is_none()),
         _ => false,
     }
 }
@@ -311,12 +328,28 @@ fn is_by_wrong_actor(phone: &Phone, event: &Event) -> bool {
             Some(record) => record.domain,
             None => return false,
         },
+        REPLACE => match replaced_and_recovery(phone, event) {
+            // A third party record as the second one leaves it to nobody, too.
+            Some((_, recovery)) if recovery.domain == THIRD_PARTY => THIRD_PARTY,
+            Some((replaced, _)) => replaced.domain,
+            None => return false,
+        },
         _ => 0,
     };
     !allowed_actors(event.kind, domain).contains(&event.actor)
 }
 
-/// Who may act. The domain counts for kinds 5 to 8 only.
+/// The two records that a replace names, where both are there.
+fn replaced_and_recovery<'a>(
+    phone: &'a Phone,
+    event: &Event,
+) -> Option<(&'a Certificate, &'a Certificate)> {
+    let replaced = phone.certificate(event.id)?;
+    let recovery = phone.certificate(event.second)?;
+    Some((replaced, recovery))
+}
+
+/// Who may act. The domain counts for kinds 5 to 8 and 16 only.
 pub fn allowed_actors(kind: u8, domain: u8) -> &'static [u8] {
     const ANYONE_BUT_THE_DEVICE: &[u8] = &[USER, OPERATOR_ACTOR, MANUFACTURER_ACTOR, ADMINISTRATOR];
     match (kind, domain) {
@@ -329,6 +362,8 @@ pub fn allowed_actors(kind: u8, domain: u8) -> &'static [u8] {
         (INSTALL_CERTIFICATE, THIRD_PARTY) => ANYONE_BUT_THE_DEVICE,
         (DELETE_CERTIFICATE, THIRD_PARTY) => &[USER, ADMINISTRATOR],
         (MARK_VALID | MARK_INVALID, THIRD_PARTY) => &[ADMINISTRATOR],
+        (REPLACE, OPERATOR) => &[OPERATOR_ACTOR],
+        (REPLACE, MANUFACTURER) => &[MANUFACTURER_ACTOR],
         _ => &[],
     }
 }
@@ -358,7 +393,8 @@ fn finds_card_slot_wrong(phone: &Phone, event: &Event) -> bool {
 fn touches_absent_card(phone: &Phone, event: &Event) -> bool {
     match event.kind {
         INSTALL_CERTIFICATE => !phone.is_present(event.second),
-        DELETE_CERTIFICATE | MARK_VALID | MARK_INVALID => phone
+        // Of a replace the first record alone counts.
+        DELETE_CERTIFICATE | MARK_VALID | MARK_INVALID | REPLACE => phone
             .certificate(event.id)
             .is_some_and(|record| !phone.is_present(record.place)),
         _ => false,
@@ -375,11 +411,18 @@ fn installs_taken_id(phone: &Phone, event: &Event) -> bool {
 }
 
 /// Code 10. Records on absent cards count too.
-fn installs_key_of_another_domain(phone: &Phone, event: &Event) -> bool {
-    event.kind == INSTALL_CERTIFICATE
-        && phone
-            .occupied_certificates()
-            .any(|record| record.key == event.key && record.domain != event.fourth)
+fn brings_key_of_another_domain(phone: &Phone, event: &Event) -> bool {
+    let domain = match event.kind {
+        INSTALL_CERTIFICATE => event.fourth,
+        REPLACE => match phone.certificate(event.id) {
+            Some(record) => record.domain,
+            None => return false,
+        },
+        _ => return false,
+    };
+    phone
+        .occupied_certificates()
+        .any(|record| record.key == event.key && record.domain != domain)
 }
 
 /// Code 11.
@@ -393,7 +436,8 @@ fn meets_another_operator(phone: &Phone, event: &Event) -> bool {
             };
             is_operator_root && card.is_some_and(|card| card.operator != event.owner)
         }
-        MARK_VALID => match (phone.certificate(event.id), phone.present_card()) {
+        // A replace goes by the owner that the root has before it.
+        MARK_VALID | REPLACE => match (phone.certificate(event.id), phone.present_card()) {
             (Some(record), Some(card)) => {
                 record.is_root_of(OPERATOR) && record.place == 0 && record.owner != card.operator
             }
@@ -406,9 +450,9 @@ fn meets_another_operator(phone: &Phone, event: &Event) -> bool {
 /// Code 12.
 fn is_about_no_fitting_root(phone: &Phone, event: &Event) -> bool {
     match event.kind {
-        MARK_VALID | MARK_INVALID => phone
+        MARK_VALID | MARK_INVALID | REPLACE => phone
             .certificate(event.id)
-            .is_some_and(|record| record.kind == ISSUED),
+            .is_some_and(|record| record.kind != ROOT),
         CONFIGURATION => event
             .listed()
             .iter()
@@ -420,7 +464,7 @@ fn is_about_no_fitting_root(phone: &Phone, event: &Event) -> bool {
 
 /// Code 13.
 fn marks_second_valid_root(phone: &Phone, event: &Event) -> bool {
-    if event.kind != MARK_VALID {
+    if !matches!(event.kind, MARK_VALID | REPLACE) {
         return false;
     }
     let Some(record) = phone.certificate(event.id) else {
@@ -470,6 +514,23 @@ fn asks_without_permission(phone: &Phone, event: &Event) -> bool {
     matches!(request_terms(phone, event), Some((1, false)))
 }
 
+/// Code 17. The date of the recovery record is never looked at.
+fn has_no_fitting_recovery_key(phone: &Phone, event: &Event) -> bool {
+    if event.kind != REPLACE {
+        return false;
+    }
+    let Some((replaced, recovery)) = replaced_and_recovery(phone, event) else {
+        return false;
+    };
+    recovery.kind != RECOVERY
+        || replaced.place != 0
+        || recovery.place != 0
+        || replaced.domain != recovery.domain
+        || replaced.owner != recovery.owner
+        || replaced.owner != event.owner
+        || event.verifying_key != recovery.key
+}
+
 /// The effect of an event that no code refuses.
 fn take_effect(phone: &mut Phone, event: &Event) {
     match event.kind {
@@ -490,6 +551,7 @@ fn take_effect(phone: &mut Phone, event: &Event) {
         VERIFY => verify(phone, event.id),
         GIVE => change_permissions(phone, event, |held, bit| held | bit),
         WITHDRAW => change_permissions(phone, event, |held, bit| held & !bit),
+        REPLACE => replace(phone, event),
         _ => {}
     }
 }
@@ -518,16 +580,20 @@ fn operator_roots_on_phone(phone: &mut Phone) -> impl Iterator<Item = &mut Certi
 }
 
 fn install_certificate(phone: &mut Phone, event: &Event) {
-    let is_third_party_root = event.third == ROOT && event.fourth == THIRD_PARTY;
-    let is_other_root = event.third == ROOT && event.fourth != THIRD_PARTY;
-    let is_disabled = is_third_party_root && phone.mode != u16::from(ENABLE_ALL);
+    let (mark, enabled) = match (event.third, event.fourth) {
+        (ROOT, THIRD_PARTY) => (1, u8::from(phone.mode == u16::from(ENABLE_ALL))),
+        (ROOT | RECOVERY, _) => (0, 1),
+        (ISSUED, _) => (1, 1),
+        // Code 2 lets no other kind come so far.
+        _ => return,
+    };
     let record = Certificate {
         id: event.id,
         place: event.second,
         kind: event.third,
         domain: event.fourth,
-        mark: u8::from(!is_other_root),
-        enabled: u8::from(!is_disabled),
+        mark,
+        enabled,
         key: event.key,
         verifying_key: event.verifying_key,
         owner: event.owner,
@@ -580,6 +646,18 @@ fn mark_valid(phone: &mut Phone, id: u16) {
         }
     }
     set_mark(phone, id, 1);
+}
+
+/// The root stays what and where it is, with another key, owner and date, and is marked valid.
+fn replace(phone: &mut Phone, event: &Event) {
+    for record in phone.certificates.iter_mut().flatten() {
+        if record.id == event.id {
+            record.key = event.key;
+            record.owner = event.owner;
+            record.expiry = event.expiry;
+            record.mark = 1;
+        }
+    }
 }
 
 /// The configuration message: all third party roots, present or not.

@@ -1,6 +1,6 @@
 //! Cases: streams made from a seed and a number, accepted and damaged ones in a fixed mix.
 //!
-//! Follows 01 as a whole. Case k of seed S is a function of S and k alone, so a case can be
+//! Follows 01 and the landed requests of 02 as a whole. Case k of seed S is a function of S and k alone, so a case can be
 //! named and made again anywhere.
 
 pub mod damage;
@@ -9,9 +9,10 @@ pub mod images;
 pub mod ladders;
 pub mod mixed_damage;
 pub mod questions;
+mod replacements;
 
 use crate::bench::{self, event_records, split_stream};
-use crate::events::{step, Event};
+use crate::events::{step, Event, LAST_KIND, VERIFY};
 use crate::phone::{Header, Phone, OPERATOR};
 use crate::random::Random;
 use events::Style;
@@ -243,8 +244,8 @@ fn chain_case(random: &mut Random, turn: usize) -> Case {
     }
     let mut stream = phone.encode();
     for executable in phone.occupied_executables() {
-        let verify = crate::events::Event {
-            kind: crate::events::VERIFY,
+        let verify = Event {
+            kind: VERIFY,
             id: executable.id,
             ..Default::default()
         };
@@ -265,9 +266,9 @@ fn every_kind_and_actor(random: &mut Random) -> Case {
     let shape = Shape::any(random);
     let phone = accepted_phone(random, shape);
     let mut stream = phone.encode();
-    for kind in 0..=16 {
+    for kind in 0..=LAST_KIND + 1 {
         for actor in 0..=5 {
-            let event = crate::events::Event {
+            let event = Event {
                 kind,
                 actor,
                 ..events::candidate(random, &phone, kind)

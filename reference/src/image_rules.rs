@@ -1,13 +1,13 @@
 //! The image rules I1 to I8, one function for each, asked in the order of the paper.
 //!
-//! Follows 01, "The image". Each function gives the way in which its rule is broken, in a
-//! few words, so that a generator can count which ways it has reached.
+//! Follows 01, "The image", and 02, "Recovery keys". Each function gives the way in which its rule
+//! is broken, in a few words, so that a generator can count which ways it has reached.
 
 use crate::chain::Trust;
 use crate::phone::{
     Card, Certificate, Executable, Header, Phone, ISSUED, LARGEST_IMAGE, MANUFACTURER,
-    MOST_ACTIONS, MOST_CARDS, MOST_CERTIFICATES, MOST_EXECUTABLES, OPERATOR, ROOT, TABLE_ROW_SIZE,
-    THIRD_PARTY,
+    MOST_ACTIONS, MOST_CARDS, MOST_CERTIFICATES, MOST_EXECUTABLES, OPERATOR, RECOVERY, ROOT,
+    TABLE_ROW_SIZE, THIRD_PARTY,
 };
 
 /// A broken rule: its number, and in which way it is broken.
@@ -131,9 +131,12 @@ fn i2_certificate(record: &Certificate) -> Way {
     if record.key == 0 {
         return Some("occupied, key 0");
     }
-    if record.kind > 1 {
-        return Some("kind");
-    }
+    let of_kind = match record.kind {
+        ROOT => i2_root,
+        ISSUED => i2_issued,
+        RECOVERY => i2_recovery,
+        _ => return Some("kind"),
+    };
     if !(1..=3).contains(&record.domain) {
         return Some("domain");
     }
@@ -143,10 +146,7 @@ fn i2_certificate(record: &Certificate) -> Way {
     if record.enabled > 1 {
         return Some("enabled not 0/1");
     }
-    match record.kind {
-        ROOT => i2_root(record),
-        _ => i2_issued(record),
-    }
+    of_kind(record)
 }
 
 fn i2_root(record: &Certificate) -> Way {
@@ -163,7 +163,6 @@ fn i2_root(record: &Certificate) -> Way {
 }
 
 fn i2_issued(record: &Certificate) -> Way {
-    debug_assert_eq!(record.kind, ISSUED);
     if record.verifying_key == 0 {
         return Some("issued without verifying key");
     }
@@ -172,6 +171,25 @@ fn i2_issued(record: &Certificate) -> Way {
     }
     if record.enabled != 1 {
         return Some("issued with enabled 0");
+    }
+    None
+}
+
+fn i2_recovery(record: &Certificate) -> Way {
+    if record.place != 0 {
+        return Some("recovery key on card");
+    }
+    if record.domain == THIRD_PARTY {
+        return Some("recovery key of third party");
+    }
+    if record.verifying_key != 0 {
+        return Some("recovery key with verifying key");
+    }
+    if record.mark != 0 {
+        return Some("recovery key with mark 1");
+    }
+    if record.enabled != 1 {
+        return Some("recovery key with enabled 0");
     }
     None
 }

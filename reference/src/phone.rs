@@ -20,6 +20,8 @@ pub const THIRD_PARTY: u8 = 3;
 /// Certificate kinds.
 pub const ROOT: u8 = 0;
 pub const ISSUED: u8 = 1;
+pub const RECOVERY: u8 = 2;
+pub const LAST_CERTIFICATE_KIND: u8 = RECOVERY;
 
 /// Standing message modes.
 pub const DISABLE_ALL: u8 = 0;

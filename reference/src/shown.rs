@@ -1,22 +1,23 @@
 //! What answers show, counted: each form of a line, and what a misreading of 02 would get wrong.
 //!
-//! Follows 02, "Tell the trainee why". A count that is high says that the cases would not let the
+//! Follows 02, "Tell the trainee why" and "Recovery keys". A count that is high says that the cases would not let the
 //! misreading pass.
 
 use std::collections::BTreeSet;
 use std::fmt::Write;
 
 use crate::asked::{serving, true_reasons, Phones, Scene};
-use crate::phone::{Certificate, Phone, ISSUED, ROOT};
+use crate::phone::{Certificate, Phone, ISSUED, RECOVERY, ROOT};
 use crate::why::{chains, explain, Answer, Reason};
 
 /// Every form of a line, its numbers left out.
-pub const FORMS: [&str; 12] = [
+pub const FORMS: [&str; 13] = [
     "certificate N is a trusted root",
     "certificate N is verified by certificate N",
     "application N is untrusted until it is verified",
     "application N is unsigned",
     "no certificate has the key of application N",
+    "certificate N is a recovery key",
     "certificate N is on an absent card",
     "certificate N is marked invalid",
     "certificate N is disabled",
@@ -36,7 +37,7 @@ struct Seen<'a> {
 type Test = fn(&Seen) -> bool;
 
 /// What is worth a count beside the lines.
-const POINTS: [(&str, Test); 43] = [
+const POINTS: [(&str, Test); 49] = [
     ("chain of 1 link", |seen| seen.links().len() == 1),
     ("chain of 2 links", |seen| seen.links().len() == 2),
     ("chain of 3 links", |seen| seen.links().len() == 3),
@@ -56,6 +57,10 @@ const POINTS: [(&str, Test); 43] = [
     (
         "a lower id with the key of a link is good by a longer way",
         |seen| seen.some_lower_twin(is_good),
+    ),
+    (
+        "a lower id with the key of a link is a recovery key",
+        |seen| seen.some_lower_twin(|_, twin| twin.kind == RECOVERY),
     ),
     ("another chain from the root down", |seen| {
         seen.has_other_chain_down()
@@ -88,6 +93,15 @@ const POINTS: [(&str, Test); 43] = [
         "several records with the key, ids do not rise with slots",
         |seen| !seen.ids_rise_with_slots(),
     ),
+    ("a recovery key beside records that are none", |seen| {
+        let is_recovery = |(_, reason): &(_, Reason)| *reason == Reason::RecoveryKey;
+        let count = seen.reasons().iter().filter(|r| is_recovery(r)).count();
+        count > 0 && count < seen.reasons().len()
+    }),
+    ("a recovery key that is past its date", |seen| {
+        let clock = seen.phone().map_or(0, |phone| phone.clock);
+        seen.some_reason(|record, reason| reason == Reason::RecoveryKey && record.expiry < clock)
+    }),
     ("absent, and marked invalid too", |seen| {
         seen.has_both(Reason::AbsentCard, Reason::MarkedInvalid)
     }),
@@ -131,6 +145,22 @@ const POINTS: [(&str, Test); 43] = [
         seen.some_without_signer(|phone, record| {
             (1..=3).any(|domain| !serving(phone, domain, record.verifying_key, 3).is_empty())
         })
+    }),
+    ("a signer that is a recovery key", |seen| {
+        seen.some_without_signer(|phone, record| {
+            phone.occupied_certificates().any(|signer| {
+                signer.kind == RECOVERY
+                    && signer.domain == record.domain
+                    && signer.key == record.verifying_key
+            })
+        })
+    }),
+    ("a chain from a root that was replaced", |seen| {
+        let root = seen.links().first();
+        root.is_some_and(|root| seen.key_before(root).is_some_and(|key| key != root.key))
+    }),
+    ("no chain, since the root was replaced", |seen| {
+        seen.links().is_empty() && seen.has_lost_root()
     }),
     ("a certificate's id above 255", |seen| {
         let links = seen.links().iter();
@@ -279,6 +309,28 @@ impl Seen<'_> {
         self.phone().is_some_and(|phone| {
             self.some_reason(|record, reason| reason == Reason::NoGoodSigner && test(phone, record))
         })
+    }
+
+    /// The key that a root had before the events.
+    fn key_before(&self, root: &Certificate) -> Option<u32> {
+        let before = &self.phones()?.before;
+        let record = before.certificate(root.id)?;
+        (record.kind == ROOT).then_some(record.key)
+    }
+
+    /// Whether the executable had a chain from a root that has another key now.
+    fn has_lost_root(&self) -> bool {
+        let Some(phones) = self.phones() else {
+            return false;
+        };
+        let Answer::Chain { links, .. } = explain(&phones.before, self.id) else {
+            return false;
+        };
+        let is_replaced = |old: &Certificate| {
+            let now = phones.asked.certificate(old.id);
+            now.is_some_and(|now| now.kind == ROOT && now.key != old.key)
+        };
+        phones.asked.executable(self.id).is_some() && links.first().is_some_and(is_replaced)
     }
 
     /// Whether the executable was there before the events.

@@ -209,7 +209,7 @@ mod tests {
     fn few_fresh_questions_show_everything() {
         let choice = Choice {
             seed: 1,
-            most: 70,
+            most: 80,
             most_bytes: 600,
             fresh: true,
         };

@@ -1,15 +1,15 @@
 //! A text form of streams that can be read, compared and written by hand.
 //!
-//! Follows 01, "The image" and "Events", with a word for each number that has a meaning.
-//! Whatever has no words is written in hex, so that every byte string has a text form that
-//! leads back to exactly the same bytes. README.md has the grammar.
+//! Follows 01, "The image" and "Events", and 02, "Recovery keys", with a word for each number that
+//! has a meaning. Whatever has no words is written in hex, so that every byte string has a text form
+//! that leads back to exactly the same bytes. README.md has the grammar.
 
 use crate::bench::{event_records, split_stream};
 use crate::events::*;
 use crate::image_rules::i1_header;
 use crate::phone::{
     Card, Certificate, Executable, Phone, TableRow, ENABLE_LISTED, ISSUED, MOST_ACTIONS,
-    MOST_CARDS, MOST_CERTIFICATES, MOST_EXECUTABLES, ROOT, TABLE_ROW_SIZE,
+    MOST_CARDS, MOST_CERTIFICATES, MOST_EXECUTABLES, RECOVERY, ROOT, TABLE_ROW_SIZE,
 };
 
 /// A line that could not be understood, and what was expected there.
@@ -41,7 +41,7 @@ const ACTORS: Vocabulary = &[
     ("manufacturer", MANUFACTURER_ACTOR),
     ("administrator", ADMINISTRATOR),
 ];
-const KINDS: Vocabulary = &[("root", ROOT), ("issued", ISSUED)];
+const KINDS: Vocabulary = &[("root", ROOT), ("issued", ISSUED), ("recovery", RECOVERY)];
 const MARKS: Vocabulary = &[("invalid", 0), ("valid", 1)];
 const ENABLED: Vocabulary = &[("disabled", 0), ("enabled", 1)];
 const GRANTS: Vocabulary = &[("never", 0), ("ask", 1), ("free", 2)];
@@ -66,6 +66,7 @@ const EVENTS: Vocabulary = &[
     ("give", GIVE),
     ("withdraw", WITHDRAW),
     ("request", REQUEST),
+    ("replace", REPLACE),
 ];
 
 fn word_for(vocabulary: Vocabulary, number: u8) -> Option<&'static str> {
@@ -175,7 +176,7 @@ fn certificate_words(record: &Certificate) -> Option<String> {
             word_for(MARKS, record.mark)?,
             word_for(ENABLED, record.enabled)?
         ),
-        // An issued record is marked and enabled always.
+        // An issued record is marked and enabled always, a recovery one only enabled.
         _ => String::new(),
     };
     Some(format!(
@@ -197,9 +198,9 @@ fn certificate_words(record: &Certificate) -> Option<String> {
 
 fn key_words(kind: u8, key: u32, verifying_key: u32, owner: u32, expiry: u32) -> String {
     let by = match kind {
-        // A root names no verifying key.
-        ROOT => String::new(),
-        _ => format!(" by {verifying_key}"),
+        ISSUED => format!(" by {verifying_key}"),
+        // No other names a verifying key.
+        _ => String::new(),
     };
     format!("key {key}{by} owner {owner} expiry {expiry}")
 }
@@ -293,6 +294,10 @@ fn event_words(event: &Event) -> Option<String> {
         INSTALL_EXECUTABLE => format!(" executable {} {}", event.id, signing_words(event.key)),
         DELETE_EXECUTABLE | VERIFY => format!(" executable {}", event.id),
         GIVE | WITHDRAW | REQUEST => format!(" executable {} action {}", event.id, event.second),
+        REPLACE => format!(
+            " certificate {} with {} key {} by {} owner {} expiry {}",
+            event.id, event.second, event.key, event.verifying_key, event.owner, event.expiry
+        ),
         _ => String::new(),
     };
     Some(head + &tail)
@@ -610,11 +615,11 @@ fn read_place(words: &mut Words) -> Result<u16, Wrong> {
 /// The verifying key, which only issued records name.
 fn read_verifying_key(words: &mut Words, kind: u8) -> Result<u32, Wrong> {
     match kind {
-        ROOT => Ok(0),
-        _ => {
+        ISSUED => {
             words.literal("by")?;
             words.number("the verifying key")
         }
+        _ => Ok(0),
     }
 }
 
@@ -637,6 +642,7 @@ fn read_certificate(words: &mut Words) -> Result<Option<Certificate>, Wrong> {
     let domain = words.one_of(DOMAINS)?;
     let (mark, enabled) = match kind {
         ROOT => (words.one_of(MARKS)?, words.one_of(ENABLED)?),
+        RECOVERY => (0, 1),
         _ => (1, 1),
     };
     Ok(Some(Certificate {
@@ -759,6 +765,7 @@ fn read_event(words: &mut Words) -> Result<Vec<u8>, Wrong> {
             event.id = words.named("executable")?;
             event.second = words.named("action")?;
         }
+        REPLACE => read_replacement(words, &mut event)?,
         _ => {}
     }
     Ok(event.encode())
@@ -775,6 +782,18 @@ fn read_certificate_to_install(words: &mut Words, event: &mut Event) -> Result<(
     event.fourth = words.one_of(DOMAINS)?;
     event.key = words.named("key")?;
     event.verifying_key = read_verifying_key(words, event.third)?;
+    event.owner = words.named("owner")?;
+    event.expiry = words.named("expiry")?;
+    Ok(())
+}
+
+fn read_replacement(words: &mut Words, event: &mut Event) -> Result<(), Wrong> {
+    event.id = words.named("certificate")?;
+    words.literal("with")?;
+    event.second = words.number("the recovery record's id")?;
+    event.key = words.named("key")?;
+    words.literal("by")?;
+    event.verifying_key = words.number("the recovery key")?;
     event.owner = words.named("owner")?;
     event.expiry = words.named("expiry")?;
     Ok(())

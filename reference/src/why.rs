@@ -1,19 +1,20 @@
 //! Why an executable is trusted or not: a shortest chain of its key, or what is wrong with each
 //! record that has the key.
 //!
-//! Follows 02, "Tell the trainee why". Of all chains that there are, the first by the words is
-//! taken; what is good within so many links is said here by writing the chains down, and not by
-//! the rounds of `chain`.
+//! Follows 02, "Tell the trainee why" and "Recovery keys". Of all chains that there are, the first
+//! by the words is taken; what is good within so many links is said here by writing the chains
+//! down, and not by the rounds of `chain`.
 
 use crate::bench::{event_records, refused_line, split_stream};
 use crate::chain::{is_issued_in_date, is_trusted_root, MOST_LINKS};
 use crate::events::step;
-use crate::phone::{Certificate, Executable, Phone, ISSUED, THIRD_PARTY, UNTRUSTED};
+use crate::phone::{Certificate, Executable, Phone, ISSUED, RECOVERY, THIRD_PARTY, UNTRUSTED};
 use crate::refusal::{open, Refusal};
 
 /// What is wrong with a record that has the key, in the order in which it is asked.
 #[derive(Clone, Copy, Debug, PartialEq, Eq)]
 pub enum Reason {
+    RecoveryKey,
     AbsentCard,
     MarkedInvalid,
     Disabled,
@@ -22,7 +23,8 @@ pub enum Reason {
 }
 
 impl Reason {
-    pub const ALL: [Reason; 5] = [
+    pub const ALL: [Reason; 6] = [
+        Reason::RecoveryKey,
         Reason::AbsentCard,
         Reason::MarkedInvalid,
         Reason::Disabled,
@@ -32,6 +34,7 @@ impl Reason {
 
     pub fn words(self) -> &'static str {
         match self {
+            Reason::RecoveryKey => "is a recovery key",
             Reason::AbsentCard => "is on an absent card",
             Reason::MarkedInvalid => "is marked invalid",
             Reason::Disabled => "is disabled",
@@ -43,6 +46,7 @@ impl Reason {
     /// Date and signer are asked of issued records alone: a root needs neither.
     pub fn is_true_of(self, phone: &Phone, record: &Certificate) -> bool {
         match self {
+            Reason::RecoveryKey => record.kind == RECOVERY,
             Reason::AbsentCard => !phone.is_present(record.place),
             Reason::MarkedInvalid => record.mark == 0,
             Reason::Disabled => record.enabled == 0,

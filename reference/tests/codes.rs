@@ -63,7 +63,7 @@ fn code_2_is_about_the_form() {
         )),
         2
     );
-    // A root with a verifying key, a message of mode 1 with a count, an actor above 4, kind 16.
+    // A root with a verifying key, a message of mode 1 with a count, an actor above 4, kinds 0 and 17.
     assert_eq!(
         code("bytes 05 03 00 32 00 00 00 02 00 00 00 32 00 00 00 01 00 00 00 00 00 00 00 00"),
         2
@@ -77,7 +77,11 @@ fn code_2_is_about_the_form() {
         2
     );
     assert_eq!(
-        code("bytes 10 00 00 00 00 00 00 00 00 00 00 00 00 00 00 00 00 00 00 00 00 00 00 00"),
+        code("bytes 00 00 00 00 00 00 00 00 00 00 00 00 00 00 00 00 00 00 00 00 00 00 00 00"),
+        2
+    );
+    assert_eq!(
+        code("bytes 11 00 00 00 00 00 00 00 00 00 00 00 00 00 00 00 00 00 00 00 00 00 00 00"),
         2
     );
 }
@@ -135,6 +139,9 @@ fn who_may_act_is_the_papers_table() {
     assert_eq!(allowed_actors(6, 3), [1, 4]);
     assert_eq!(allowed_actors(7, 3), [4]);
     assert_eq!(allowed_actors(8, 3), [4]);
+    assert_eq!(allowed_actors(16, 1), [2]);
+    assert_eq!(allowed_actors(16, 2), [3]);
+    assert_eq!(allowed_actors(16, 3), []);
 }
 
 #[test]

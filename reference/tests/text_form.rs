@@ -37,6 +37,64 @@ fn every_changed_byte_leads_back() {
     }
 }
 
+/// A recovery record, and every event that is about one.
+const RECOVERY: &str = "\
+phone mode 1 card none clock 100
+certificate 10 on phone root operator valid enabled key 1000 owner 500 expiry 1000
+certificate 40 on phone recovery operator key 4000 owner 500 expiry 1000
+certificate free
+action 0 untrusted ask operator free manufacturer free third-party ask
+
+replace by operator certificate 10 with 40 key 1002 by 4000 owner 500 expiry 900
+install-certificate by operator certificate 41 on phone recovery operator key 4001 owner 500 expiry 1000
+install-certificate by user certificate 42 on card 3 recovery third-party key 4001 owner 0 expiry 0
+delete-certificate by operator certificate 40
+mark-valid by operator certificate 41
+";
+
+#[test]
+fn recovery_keys_have_words_both_ways() {
+    let stream = to_bytes(RECOVERY).expect("text");
+    assert_eq!(to_text(&stream), RECOVERY);
+    // Kind, domain, mark and enabled of the record; then the whole event.
+    assert_eq!(stream[68..72], [2, 1, 0, 1]);
+    let replace = [
+        16, 2, 0, 10, 0, 40, 0, 0, 0, 0, 3, 234, 0, 0, 15, 160, 0, 0, 1, 244, 0, 0, 3, 132,
+    ];
+    assert_eq!(stream[116..140], replace);
+    assert_eq!(stream[146..148], [2, 1]);
+}
+
+#[test]
+fn every_changed_byte_of_recovery_keys_leads_back() {
+    let stream = to_bytes(RECOVERY).expect("text");
+    for at in 0..stream.len() {
+        for value in [0, 1, 2, 3, 16, 17, 255] {
+            let mut changed = stream.clone();
+            changed[at] = value;
+            leads_back(&changed);
+        }
+    }
+}
+
+#[test]
+fn a_recovery_record_that_breaks_a_rule_is_in_words_as_far_as_they_go() {
+    let mut stream = to_bytes(RECOVERY).expect("text");
+    // A mark and a verifying key have no words, a place and a domain have.
+    stream[70] = 1;
+    assert!(to_text(&stream).contains("\ncertificate bytes 00 28 00 00 02 01 01 01 "));
+    stream[70] = 0;
+    stream[79] = 1;
+    assert!(to_text(&stream).contains("\ncertificate bytes 00 28 00 00 02 01 00 01 "));
+    stream[79] = 0;
+    stream[67] = 3;
+    stream[69] = 3;
+    assert!(to_text(&stream).contains("\ncertificate 40 on card 3 recovery third-party key 4000 "));
+    // A field that a replace does not use.
+    stream[116 + 6] = 1;
+    assert!(to_text(&stream).contains("\nbytes 10 02 00 0a 00 28 01 00 "));
+}
+
 #[test]
 fn comments_and_empty_lines_are_left_out() {
     let with_comments = WORKED_RUN
@@ -111,6 +169,43 @@ fn errors_name_the_line_and_what_was_expected() {
     assert_eq!(
         at_12("certificate bytes 00").1,
         "expected 24 bytes, found 1"
+    );
+    assert_eq!(
+        at_12("certificate 40 on phone recovery operator valid enabled key 1 owner 2 expiry 3"),
+        (12, "expected `key`, found `valid`".into())
+    );
+    assert_eq!(
+        at_12("certificate 40 on phone recovery operator key 1 by 4 owner 2 expiry 3"),
+        (12, "expected `owner`, found `by`".into())
+    );
+    assert_eq!(
+        at_12("certificate 40 on phone spare operator key 1 owner 2 expiry 3"),
+        (
+            12,
+            "expected one of root, issued, recovery, found `spare`".into()
+        )
+    );
+    assert_eq!(
+        at_12("replace by operator certificate 10 key 1002 by 4000 owner 500 expiry 900"),
+        (12, "expected `with`, found `key`".into())
+    );
+    assert_eq!(
+        at_12("replace by operator certificate 10 with 65536 key 1 by 2 owner 3 expiry 4"),
+        (
+            12,
+            "expected the recovery record's id, a number from 0 to 65535, found `65536`".into()
+        )
+    );
+    assert_eq!(
+        at_12("replace by operator certificate 10 with 40 key 1002 by owner 500 expiry 900"),
+        (
+            12,
+            "expected the recovery key, a number from 0 to 4294967295, found `owner`".into()
+        )
+    );
+    assert_eq!(
+        at_12("replace by operator certificate 10 with 40 key 1002 owner 500 expiry 900"),
+        (12, "expected `by`, found `owner`".into())
     );
     assert_eq!(wrong("\ncertificate free").0, 2);
     assert_eq!(

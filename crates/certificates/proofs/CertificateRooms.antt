@@ -10,10 +10,10 @@ use Rattle.records.specs.declared.Certificate.{Certificate}
 use Rattle.records.specs.declared.Event.{Event}
 use Rattle.rules.specs.Words.{any, _⇒_, first, first-place}
 use Rattle.rules.specs.Forms.{with-kind}
-use Rattle.rules.specs.Codes.{has-id, code-of}
+use Rattle.rules.specs.Codes.{has-id, in-another, code-of}
 use Rattle.lookup.specs.declared.Room.the-variants.{Taken, Full, Free}
 use Rattle.lookup.specs.declared.CertificateRoom.{CertificateRoom}
-use Rattle.lookup.specs.RoomForOne.{in-another, certificate-room}
+use Rattle.lookup.specs.RoomForOne.{certificate-room}
 use Rattle.handling.specs.declared.Plan.{Plan}
 use Rattle.handling.specs.Plans.{for-certificate}
 use Rattle.handling.proofs.PlanLaws.{on-code, on-slot, free-certificate-within}

@@ -11,6 +11,7 @@ use Rattle.rules.specs.Words.{any}
 use Rattle.rules.specs.Forms.{with-kind, new-certificate}
 use Rattle.rules.specs.Codes.{certificate-named}
 use Rattle.rules.specs.Effects.{effect, changed, install-certificate, on-a-card, mark-valid, enabled-by, message, delete-certificate, mark-invalid}
+use Rattle.rules.specs.Effects.{replaced, replace}
 use Rattle.rules.proofs.Accepted.{Accepted}
 use Rattle.chain.specs.Breaks.{disables}
 use Rattle.chain.specs.Settling.{settle-in}
@@ -40,6 +41,10 @@ module _ (p : Phone) (ok : Accepted p) (e : Event) (nz : 0 < e .id) {c : Certifi
   pub invalid-own : settle-in (c .domain) (effect (with-kind 8 e) p) ≡ changed (with-kind 8 e) p
   unfolding changed effect mark-invalid
   invalid-own = ap (λ x. settle-in (x .domain) (effect (with-kind 8 e) p)) named ∙ own-settles p ok (e .id) (λ z. omega arith) (marked 0)
+
+  pub replace-own : settle-in (c .domain) (effect (with-kind 16 e) p) ≡ changed (with-kind 16 e) p
+  unfolding changed effect replace
+  replace-own = ap (λ x. settle-in (x .domain) (effect (with-kind 16 e) p)) named ∙ own-settles p ok (e .id) (λ z. omega arith) (replaced (with-kind 16 e))
 
 -- c is the certificate that the event makes under mode m
 pub installed : (l : List ℕ) (e : Event) {c : Certificate} {m : ℕ} → c ≡ new-certificate m e → m ≡ decode l .mode

@@ -10,9 +10,9 @@ use lib.ListN.{length, getD, drop}
 use Rattle.records.specs.Phone.{Phone, certificate-at}
 use Rattle.records.specs.declared.Certificate.{Certificate}
 use Rattle.records.specs.declared.Event.{Event}
-use Rattle.rules.specs.Words.{between, Check, _⇒_, first, first-place}
+use Rattle.rules.specs.Words.{Check, _⇒_, first, first-place}
 use Rattle.rules.specs.Forms.{with-kind, forms, no-form, id-form}
-use Rattle.rules.specs.Codes.{has-id, certificate-known, certificate-named, code-of}
+use Rattle.rules.specs.Codes.{has-id, names-certificate, certificate-known, certificate-named, code-of}
 use Rattle.handling.specs.declared.Plan.{Plan}
 use Rattle.handling.specs.Plans.{plan, on-certificate, certificate-rows}
 use Rattle.handling.proofs.Decided.{formed, refused-first, refused-next, on-next}
@@ -26,46 +26,51 @@ use Rattle.certificates.proofs.CertificateCodes.{on-rows}
 abbrev place : Phone → Event → ℕ
 place p e = first-place (has-id (e .id)) (p .trust .certificates)
 
+-- the rows on a certificate have decided that the event is on slot i
+module _ (k : ℕ) (nobody : Bool) (p : Phone) (e : Event) {r : Plan} (rows : r ≡ certificate-plan k nobody p e) {i : ℕ} (on : r ≡ Plan.On i) where
+  slot : i ≡ place p e
+  slot = on-slot (first (certificate-rows k nobody p e)) (place p e) rows on
+
+  known : (b : Bool) (l : List Check) → first ((not b ⇒ 3) ∷ l) ≡ 0 → b ≡ true
+  unfolding first
+  known true l z = refl
+  known false l z = absurd (omega (arith, z))
+
+  pub row-within : i < length (p .trust .certificates)
+  unfolding certificate-known
+  row-within =
+      first-within (has-id (e .id)) (p .trust .certificates) slot
+      (known (certificate-known p (e .id)) (drop 1 (certificate-rows k nobody p e)) (on-code (first (certificate-rows k nobody p e)) (place p e) rows on))
+
+  pub row-named : {c : Certificate} → c ≡ certificate-at p i → c ≡ certificate-named p (e .id)
+  row-named = certificate-here p (e .id) slot
+
 -- the form is right, the rows on the certificate have decided r, and after those come the rows m
 pub record Onward (k : ℕ) (p : Phone) (e : Event) (m : List Check) (r : Plan) : Type 0 where
   pub told : first (on-rows k p e m) ≡ code-of p (with-kind k e)
   pub form : Bool
   pub answers : form ≡ id-form p e
   pub right : not form ≡ false
-  pub rows : r ≡ certificate-plan k p e
+  pub rows : r ≡ certificate-plan k false p e
 
 module _ {k : ℕ} {p : Phone} {e : Event} {m : List Check} {r : Plan} (o : Onward k p e m r) where
-  whole : {t : Plan} → t ≡ plan (first (certificate-rows k p e ++ m)) (place p e) → t ≡ on-certificate k p e
-  whole = formed (code-of p (with-kind k e)) (place p e) (id-form p e) (certificate-rows k p e ++ m) (o .told) (o .answers) (o .right)
+  abbrev on-it : List Check
+  on-it = certificate-rows k false p e
+
+  whole : {t : Plan} → t ≡ plan (first (on-it ++ m)) (place p e) → t ≡ on-certificate k p e
+  whole = formed (code-of p (with-kind k e)) (place p e) (id-form p e) (on-it ++ m) (o .told) (o .answers) (o .right)
 
   -- they refuse it
   pub row-refuses : {c : ℕ} → r ≡ Plan.Refused c → Plan.Refused c ≡ on-certificate k p e
-  row-refuses u = whole (refused-first (certificate-rows k p e) m (place p e) (o .rows) u)
+  row-refuses u = whole (refused-first on-it m (place p e) (o .rows) u)
 
   -- they let the rest decide on slot i
   module _ {i : ℕ} (on : r ≡ Plan.On i) where
     pub rest-refuses : {c : ℕ} → c ≢ 0 → c ≡ first m → Plan.Refused c ≡ on-certificate k p e
-    rest-refuses n t = whole (refused-next (certificate-rows k p e) m (place p e) (o .rows) tt on n t)
+    rest-refuses n t = whole (refused-next on-it m (place p e) (o .rows) tt on n t)
 
     pub none-refuses : 0 ≡ first m → Plan.On i ≡ on-certificate k p e
-    none-refuses t = whole (on-next (certificate-rows k p e) m (place p e) (o .rows) tt on t)
-
-    slot : i ≡ place p e
-    slot = on-slot (first (certificate-rows k p e)) (place p e) (o .rows) on
-
-    known : (b : Bool) (l : List Check) → first ((not b ⇒ 3) ∷ l) ≡ 0 → b ≡ true
-    unfolding first
-    known true l z = refl
-    known false l z = absurd (omega (arith, z))
-
-    pub row-within : i < length (p .trust .certificates)
-    unfolding certificate-known
-    row-within =
-        first-within (has-id (e .id)) (p .trust .certificates) slot
-        (known (certificate-known p (e .id)) (drop 1 (certificate-rows k p e)) (on-code (first (certificate-rows k p e)) (place p e) (o .rows) on))
-
-    pub row-named : {c : Certificate} → c ≡ certificate-at p i → c ≡ certificate-named p (e .id)
-    row-named = certificate-here p (e .id) slot
+    none-refuses t = whole (on-next on-it m (place p e) (o .rows) tt on t)
 
 -- ---- the event is done
 
@@ -76,7 +81,7 @@ pub record About (k : ℕ) (p : Phone) (e : Event) (i : ℕ) : Type 0 where
   pub within : i < length (p .trust .certificates)
   pub id : 0 < e .id
 
-module _ (k : ℕ) (p : Phone) (e : Event) (h : T (between 6 8 k)) (f : T (getD forms k no-form p (with-kind k e)) → T (id-form p (with-kind k e))) where
+module _ (k : ℕ) (p : Phone) (e : Event) (h : T (names-certificate k)) (f : T (getD forms k no-form p (with-kind k e)) → e .id ≢ 0) where
   pub about : {r : Plan} → r ≡ on-certificate k p e → {i : ℕ} → r ≡ Plan.On i → About k p e i
   about q on =
       let z = on-code (code-of p (with-kind k e)) (place p e) q on in

@@ -9,17 +9,22 @@ use Rattle.records.specs.declared.Certificate.{Certificate}
 use Rattle.rules.specs.Chains.{present, valid-root}
 use Rattle.rules.specs.Codes.{rival}
 
-barred : (a v d z : Bool) → (a || not v || not d) ≡ true → false ≡ (not a && v && d && z)
+invalid : (a v d z : Bool) → not v ≡ true → false ≡ (not a && v && d && z)
+invalid true v d z h = refl
+invalid false false d z h = refl
+invalid false true d z h = absurd (false≢true h)
+
+barred : (a v d z : Bool) → (a || not d) ≡ true → false ≡ (not a && v && d && z)
 barred true v d z h = refl
 barred false false d z h = refl
 barred false true false z h = refl
 barred false true true z h = absurd (false≢true h)
 
-passed : (a v d z : Bool) → (a || not v || not d) ≡ false → z ≡ (not a && v && d && z)
-passed true v d z h = absurd (true≢false h)
-passed false false d z h = absurd (true≢false h)
-passed false true false z h = absurd (true≢false h)
-passed false true true z h = refl
+passed : (a v d z : Bool) → not v ≡ false → (a || not d) ≡ false → z ≡ (not a && v && d && z)
+passed true v d z n h = absurd (true≢false h)
+passed false false d z n h = absurd (true≢false n)
+passed false true false z n h = absurd (true≢false h)
+passed false true true z n h = refl
 
 -- v: whether x is a valid root
 module _ (s : Seen) (c x : Certificate) (v : Bool) (q : v ≡ valid-root (s .clock) x) where
@@ -30,14 +35,18 @@ module _ (s : Seen) (c x : Certificate) (v : Bool) (q : v ≡ valid-root (s .clo
   abbrev with-valid : Bool → Bool
   with-valid b = not (eqb (x .id) (c .id)) && b && eqb (x .domain) (c .domain) && near
 
-  pub no-rival : (eqb (x .id) (c .id) || not v || not (eqb (x .domain) (c .domain))) ≡ true → false ≡ rival s c x
+  pub not-valid : not v ≡ true → false ≡ rival s c x
+  unfolding rival
+  not-valid h = invalid (eqb (x .id) (c .id)) v (eqb (x .domain) (c .domain)) near h ∙ ap with-valid q
+
+  pub no-rival : (eqb (x .id) (c .id) || not (eqb (x .domain) (c .domain))) ≡ true → false ≡ rival s c x
   unfolding rival
   no-rival h = barred (eqb (x .id) (c .id)) v (eqb (x .domain) (c .domain)) near h ∙ ap with-valid q
 
-  module _ (h : (eqb (x .id) (c .id) || not v || not (eqb (x .domain) (c .domain))) ≡ false) where
+  module _ (g : not v ≡ false) (h : (eqb (x .id) (c .id) || not (eqb (x .domain) (c .domain))) ≡ false) where
     if-near : {r : Bool} → r ≡ near → r ≡ rival s c x
     unfolding rival
-    if-near n = n ∙ passed (eqb (x .id) (c .id)) v (eqb (x .domain) (c .domain)) near h ∙ ap with-valid q
+    if-near n = n ∙ passed (eqb (x .id) (c .id)) v (eqb (x .domain) (c .domain)) near g h ∙ ap with-valid q
 
     pub maker-rival : c .domain ≡ 2 → true ≡ rival s c x
     maker-rival d = if-near (rw (eq-eqb (c .domain) 2 d))

@@ -22,9 +22,9 @@ of-other-operator p c =
     let card = p .trust .seen .card in
     operator-root c && eqb (c .place) 0 && not (eqb card 0) && not (eqb (c .owner) (operator-of (p .cards) card))
 
--- the plan of an event of kind k on the certificate that it names, whatever its form
-abbrev pub certificate-plan : ℕ → Phone → Event → Plan
-certificate-plan k p e = plan (first (certificate-rows k p e)) (first-place (has-id (e .id)) (p .trust .certificates))
+-- the plan of an event of kind k on the certificate that it names, whatever its form; it may be that nobody is allowed
+abbrev pub certificate-plan : ℕ → Bool → Phone → Event → Plan
+certificate-plan k nobody p e = plan (first (certificate-rows k nobody p e)) (first-place (has-id (e .id)) (p .trust .certificates))
 
 -- 3: a message lists one that is unknown; 12: "message lists one that is no third party root"
 abbrev pub listed-code : Phone → Event → ℕ

@@ -11,10 +11,11 @@ ghost use Prim.Native.Nat.{_<_, _≤_};
 ghost use mathlib.Core.Path.{_≡_};
 ghost use Rattle.handling.specs.Plans.{on-certificate, for-certificate};
 ghost use Rattle.certificates.specs.Decisions.{of-other-card, of-other-operator, certificate-plan, listed-code};
-ghost use Rattle.certificates.specs.MarkingRows.{marking-rows};
+ghost use Rattle.certificates.specs.MarkingRows.{marking-rows, replacing-rows, replace-plan};
 ghost use Rattle.rules.specs.AcceptedImage.{Accepted-image};
 ghost use Rattle.records.specs.Frame.{Framed};
-ghost use Rattle.records.specs.Phone.{decode};
+ghost use lib.ListN.{length};
+ghost use Rattle.records.specs.Phone.{decode, certificate-at};
 ghost use Rattle.rules.specs.Codes.{code-of, rival};
 ghost use Rattle.rules.specs.Forms.{with-kind};
 ghost use Rattle.rules.specs.Words.{any, first};
@@ -69,17 +70,17 @@ pub fn install_certificate(s: &[u8], e: Event) -> Plan
     }
 }
 
-// What stands against an event of a kind on the certificate that it names, besides its form.
-fn on_certificate(s: &[u8], e: Event, kind: u8) -> Plan
+// What stands against an event of a kind on the certificate that it names, besides its form; it may be that nobody is allowed.
+fn on_certificate(s: &[u8], e: Event, kind: u8, nobody: bool) -> Plan
     requires { ⌜ Accepted-image (now s) ⌝ }
-    requires { ⌜ (kind < 16) × (e .actor < 5) ⌝ }
-    ensures { λ r. ⌜ r ≡ certificate-plan kind (decode (now (s .entry))) e ⌝ }
+    requires { ⌜ (kind < 17) × (e .actor < 5) ⌝ }
+    ensures { λ r. ⌜ r ≡ certificate-plan kind nobody (decode (now (s .entry))) e ⌝ }
 {
     match lookup::certificate_slot(s, e.id) {
         Found::Nowhere => Plan::Refused(3),
         Found::At(slot) => {
             let c = image::certificate(s, slot);
-            if !actors::may_act(kind, c.domain, e.actor) {
+            if !actors::may_act(kind, c.domain, e.actor) | nobody {
                 return Plan::Refused(4);
             }
             if !terms::is_present(s, c) {
@@ -99,15 +100,18 @@ pub fn delete_certificate(s: &[u8], e: Event) -> Plan
     if !forms::id_form(e) {
         return Plan::Refused(2);
     }
-    on_certificate(s, e, Event::DELETE_CERTIFICATE)
+    on_certificate(s, e, Event::DELETE_CERTIFICATE, false)
 }
 
-// Whether x, valid, stands in the way of marking c valid.
+// Whether x, valid, stands in the way of marking c valid. Most records are no valid roots, so that is asked first.
 fn is_rival(s: &[u8], c: Certificate, x: Certificate) -> bool
     requires { ⌜ Framed (now s) ⌝ }
     ensures { λ r. ⌜ r ≡ rival (decode (now (s .entry)) .trust .seen) c x ⌝ }
 {
-    if (x.id == c.id) | !terms::valid_root(image::clock(s), x) | (x.domain != c.domain) {
+    if !terms::valid_root(image::clock(s), x) {
+        return false;
+    }
+    if (x.id == c.id) | (x.domain != c.domain) {
         return false;
     }
     if c.domain == records::MANUFACTURER {
@@ -149,15 +153,18 @@ fn of_other_operator(s: &[u8], c: Certificate) -> bool
     false
 }
 
-// What stands against marking c valid, besides its mark: 0, or 11, 12 or 13.
-fn judge_marking(s: &[u8], c: Certificate) -> u8
+// What stands against marking the certificate in a slot valid, besides its mark: 0, or 11, 12 or 13. The slot is lent and not the record,
+// which two callers would each have to put together.
+fn judge_marking(s: &[u8], slot: usize) -> u8
     requires { ⌜ Framed (now s) ⌝ }
-    ensures { λ r. ⌜ r ≡ first (marking-rows (decode (now (s .entry))) c) ⌝ }
+    requires { ⌜ slot < length (decode (now s) .trust .certificates) ⌝ }
+    ensures { λ r. ⌜ r ≡ first (marking-rows (decode (now (s .entry))) (certificate-at (decode (now (s .entry))) slot)) ⌝ }
 {
+    let c = image::certificate(s, slot);
     if of_other_operator(s, c) {
         return 11;
     }
-    if c.kind == Certificate::ISSUED {
+    if c.kind != Certificate::ROOT {
         return 12;
     }
     if has_rival(s, c) {
@@ -175,10 +182,10 @@ pub fn mark_valid(s: &[u8], e: Event) -> Plan
     if !forms::id_form(e) {
         return Plan::Refused(2);
     }
-    match on_certificate(s, e, Event::MARK_VALID) {
+    match on_certificate(s, e, Event::MARK_VALID, false) {
         Plan::Refused(code) => Plan::Refused(code),
         Plan::On(slot) => {
-            let told = judge_marking(s, image::certificate(s, slot));
+            let told = judge_marking(s, slot);
             if told != 0 {
                 return Plan::Refused(told);
             }
@@ -196,14 +203,67 @@ pub fn mark_invalid(s: &[u8], e: Event) -> Plan
     if !forms::id_form(e) {
         return Plan::Refused(2);
     }
-    match on_certificate(s, e, Event::MARK_INVALID) {
+    match on_certificate(s, e, Event::MARK_INVALID, false) {
         Plan::Refused(code) => Plan::Refused(code),
         Plan::On(slot) => {
-            if image::certificate(s, slot).kind == Certificate::ISSUED {
+            if image::certificate(s, slot).kind != Certificate::ROOT {
                 return Plan::Refused(12);
             }
             Plan::On(slot)
         }
+    }
+}
+
+// What stands against replacing the root in a slot by record r: 0, or 10, what stands against marking it valid, or 17.
+fn judge_replacing(s: &[u8], e: Event, slot: usize, r: Certificate) -> u8
+    requires { ⌜ Framed (now s) ⌝ }
+    requires { ⌜ slot < length (decode (now s) .trust .certificates) ⌝ }
+    ensures { λ b. ⌜ b ≡ first (replacing-rows (decode (now (s .entry))) e (certificate-at (decode (now (s .entry))) slot) r) ⌝ }
+{
+    let c = image::certificate(s, slot);
+    if lookup::key_elsewhere(s, e.key, c.domain) {
+        return 10;
+    }
+    let told = judge_marking(s, slot);
+    if told != 0 {
+        return told;
+    }
+    if !terms::may_replace(e, c, r) {
+        return 17;
+    }
+    0
+}
+
+// What is decided of a replace whose recovery record is r: where that is a third party's, nobody is allowed.
+fn replace_by(s: &[u8], e: Event, r: Certificate) -> Plan
+    requires { ⌜ Accepted-image (now s) ⌝ }
+    requires { ⌜ e .actor < 5 ⌝ }
+    ensures { λ b. ⌜ b ≡ replace-plan (decode (now (s .entry))) e r ⌝ }
+{
+    match on_certificate(s, e, Event::REPLACE, r.domain == records::THIRD_PARTY) {
+        Plan::Refused(code) => Plan::Refused(code),
+        Plan::On(slot) => {
+            let told = judge_replacing(s, e, slot, r);
+            if told != 0 {
+                return Plan::Refused(told);
+            }
+            Plan::On(slot)
+        }
+    }
+}
+
+// 16 replace
+pub fn replace(s: &[u8], e: Event) -> Plan
+    requires { ⌜ Accepted-image (now s) ⌝ }
+    requires { ⌜ e .actor < 5 ⌝ }
+    ensures { λ r. ⌜ r ≡ on-certificate 16 (decode (now (s .entry))) e ⌝ }
+{
+    if !forms::replace_form(e) {
+        return Plan::Refused(2);
+    }
+    match lookup::certificate_slot(s, e.second) {
+        Found::Nowhere => Plan::Refused(3),
+        Found::At(slot) => replace_by(s, e, image::certificate(s, slot)),
     }
 }
 

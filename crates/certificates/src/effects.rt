@@ -14,7 +14,7 @@ ghost use Rattle.rules.specs.AcceptedImage.{Accepted-image};
 ghost use Rattle.records.specs.Frame.{Framed};
 ghost use Rattle.records.specs.Phone.{decode, encode};
 ghost use Rattle.rules.specs.Codes.{has-id};
-ghost use Rattle.rules.specs.Effects.{delete-certificate, enabled-by, mark-invalid, mark-valid, message};
+ghost use Rattle.rules.specs.Effects.{delete-certificate, enabled-by, mark-invalid, mark-valid, message, replace};
 ghost use Rattle.rules.specs.Forms.{listed};
 
 // 5: c is stored in the lowest free slot.
@@ -64,6 +64,18 @@ pub fn mark_invalid(s: &mut [u8], e: Event, slot: usize)
     ensures { λ _. ⌜ now (s .exit) ≡ encode (mark-invalid e (decode (now (s .entry)))) ⌝ }
 {
     image::set_mark(s, slot, Certificate::INVALID);
+}
+
+// 16: the root keeps its slot.
+pub fn replace(s: &mut [u8], e: Event, slot: usize)
+    requires { ⌜ Accepted-image (now s) ⌝ }
+    requires { ⌜ slot ≡ first-place (has-id (e .id)) (decode (now s) .trust .certificates) ⌝ }
+    requires { ⌜ slot < length (decode (now s) .trust .certificates) ⌝ }
+    requires { ⌜ 0 < e .id ⌝ }
+    ensures { λ _. ⌜ now (s .exit) ≡ encode (replace e (decode (now (s .entry)))) ⌝ }
+{
+    let c = image::certificate(s, slot);
+    image::write_certificate(s, slot, forms::replaced(e, c));
 }
 
 // Whether a message lists this id.

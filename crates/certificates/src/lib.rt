@@ -1,4 +1,4 @@
-// Kinds 5 to 9, certificates: the decision, and where it is 0 the effect and the settling, where a chain can break.
+// Kinds 5 to 9 and 16, certificates: the decision, and where it is 0 the effect and the settling, where a chain can break.
 mod decisions;
 mod effects;
 
@@ -88,4 +88,20 @@ pub fn message(s: &mut [u8], e: Event) -> Answer
     }
     let broken = effects::message(s, e);
     handling::settle_if(s, broken)
+}
+
+// 16 replace: the key that the root had is gone, and with it chains of the root's own domain.
+pub fn replace(s: &mut [u8], e: Event) -> Answer
+    requires { ⌜ Accepted-image (now s) ⌝ }
+    requires { ⌜ e .actor < 5 ⌝ }
+    ensures { λ r. ⌜ Handled (now (s .entry)) (with-kind 16 e) r (now (s .exit)) ⌝ }
+{
+    match decisions::replace(s, e) {
+        Plan::Refused(code) => handling::refused(code),
+        Plan::On(slot) => {
+            let root = image::certificate(s, slot);
+            effects::replace(s, e, slot);
+            handling::settle_own(s, root.domain)
+        }
+    }
 }

@@ -55,23 +55,26 @@ giving-grants = (refl, refl)
 
 -- ---- the kinds that stand in neither list
 
--- operator roots 10, valid on the phone, and 20, as given, on a card; third party roots 30, enabled, and 40, not; cards 1 and 2 of operators 500
--- and 600; executables 1 to 4, signed by the keys of 10, 20, 30 and 40, of which 1 and 3 have their domains; one action, for all domains but 0
+-- operator roots 10, valid on the phone, and 20, as given, on a card; third party roots 30, enabled, and 40, not; recovery record 50 beside root 10;
+-- cards 1 and 2 of operators 500 and 600; executables 1 to 4, signed by the keys of 10, 20, 30 and 40, of which 1 and 3 have their domains, and 5,
+-- signed by a key that nobody has; one action, for all domains but 0
 abbrev phone : ℕ → ℕ → List ℕ
 phone card root-20 =
-    bytes 12 0x0001_0004_0002_0004_0001_0002
+    bytes 12 0x0001_0005_0002_0005_0001_0002
     ++ bytes 2 card
-    ++ bytes 26 0x0000_00000064_00000028_00000088_00000098_000000c8_000000cc
+    ++ bytes 26 0x0000_00000064_00000028_000000a0_000000b0_000000ec_000000f0
     ++ bytes 24 0x000a_0000_00_01_01_01_000003e8_00000000_000001f4_000003e8
     ++ bytes 24 root-20
     ++ bytes 24 0x001e_0000_00_03_01_01_00000bb8_00000000_00000000_00000000
     ++ bytes 24 0x0028_0000_00_03_01_00_00000fa0_00000000_00000000_00000000
+    ++ bytes 24 0x0032_0000_02_01_00_01_00001388_00000000_000001f4_00000000
     ++ bytes 8 0x0001_0000_000001f4
     ++ bytes 8 0x0002_0000_00000258
     ++ bytes 12 0x0001_01_00_000003e8_00000000
     ++ bytes 12 0x0002_00_00_000007d0_00000000
     ++ bytes 12 0x0003_03_00_00000bb8_00000000
     ++ bytes 12 0x0004_00_00_00000fa0_00000000
+    ++ bytes 12 0x0005_00_00_000003ea_00000000
     ++ bytes 4 0x00_02_02_02
 
 -- no card is present, and root 20 is valid on card 2
@@ -82,7 +85,8 @@ card-away = phone 0 0x0014_0002_00_01_01_01_000007d0_00000000_00000258_000003e8
 abbrev card-here : List ℕ
 card-here = phone 1 0x0014_0001_00_01_00_01_000007d0_00000000_000001f4_000003e8
 
--- card 2 in; power up with card 2; a message that enables root 40 and no other; root 20 marked valid
+-- card 2 in; power up with card 2; a message that enables root 40 and no other; root 20 marked valid; root 10 replaced, with the key that signed
+-- executable 5
 abbrev card-2-in : List ℕ
 card-2-in = bytes 24 0x02_00_0000_0002_00_00_00000000_00000000_00000000_00000000
 
@@ -94,6 +98,9 @@ enable-40 = bytes 24 0x09_04_0000_0000_02_01_0028_0000_00000000_00000000_0000000
 
 abbrev mark-20 : List ℕ
 mark-20 = bytes 24 0x07_02_0014_0000_00_00_00000000_00000000_00000000_00000000
+
+abbrev replace-10 : List ℕ
+replace-10 = bytes 24 0x10_02_000a_0032_00_00_000003ea_00001388_000001f4_000003e8
 
 -- an event on an image, and a request
 pub record Example : Type 0 where
@@ -126,10 +133,22 @@ loses x =
     fair x && grants (x .image) (x .executable) (x .action) && not (grants (step (x .image) (x .event) .image) (x .executable) (x .action))
 
 abbrev pub gaining : List Example
-gaining = example card-away card-2-in 2 ∷ example card-away up-with-card-2 2 ∷ example card-away enable-40 4 ∷ example card-here mark-20 2 ∷ []
+gaining =
+    example card-away card-2-in 2
+    ∷ example card-away up-with-card-2 2
+    ∷ example card-away enable-40 4
+    ∷ example card-here mark-20 2
+    ∷ example card-away replace-10 5
+    ∷ []
 
 abbrev pub losing : List Example
-losing = example card-away card-2-in 1 ∷ example card-away up-with-card-2 1 ∷ example card-away enable-40 3 ∷ example card-here mark-20 1 ∷ []
+losing =
+    example card-away card-2-in 1
+    ∷ example card-away up-with-card-2 1
+    ∷ example card-away enable-40 3
+    ∷ example card-here mark-20 1
+    ∷ example card-away replace-10 1
+    ∷ []
 
 pub none-withdraws : all gains gaining ≡ true
 unfolding computing verified

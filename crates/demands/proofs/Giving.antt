@@ -115,6 +115,7 @@ effect-over p ok e d g =
       give = λ g. over-change p (is-executable (e .id)) _ (λ x m. setting-over (e .second) x);
       withdraw = λ g. absurd g;
       request = λ g. absurd g;
+      replace = λ g. absurd g;
     })
     (e .kind) p e (d .formed) g
   where

@@ -49,7 +49,7 @@ unfolding the-tests action-form table-byte
 grant-out p n a h =
     let d : Unrefused p (request-event n a) = unrefused p (request-event n a) h in
     let form : T (action-form p (request-event n a)) = d .formed in
-    let known : T (not (not (executable-known p n) || false)) = d .known in
+    let known : T (not (not (executable-known p n) || false || false)) = d .known in
     let byte : T (not (eqb (byte-for p n a) 0)) = d .table-open in
     record {
       number = search tests;
@@ -67,7 +67,7 @@ grant-in p n a g =
     unrefused-done p (request-event n a) tt
     (record {
       formed = search tests;
-      known = nor-i (not (executable-known p n)) false (not-intro (executable-known p n) (g .known)) tt;
+      known = nor-i (not (executable-known p n) || false) false (nor-i (not (executable-known p n)) false (not-intro (executable-known p n) (g .known)) tt) tt;
       allowed = tt;
       forward = tt;
       in-table = tt;
@@ -84,6 +84,7 @@ grant-in p n a g =
       permitted =
           nand-i (eqb (byte-for p n a) 1) (not (permission-for p n a))
           (λ one. not-intro (permission-for p n a) (g .permission (eqb→eq (byte-for p n a) 1 one)));
+      replaces = tt;
     })
 
 -- I6: the byte for domain 0 is the least

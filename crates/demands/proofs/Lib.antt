@@ -4,6 +4,7 @@ pub mod Giving
 pub mod Demand3
 pub mod LowestRow
 pub mod TouchNoMore
+pub mod Recovering
 pub mod Examples
 pub mod Pinned
 pub mod Theorems

@@ -14,7 +14,7 @@ use Rattle.rules.specs.Chains.{present, valid-root, chain-of}
 use Rattle.rules.specs.ImageRules.{valid-in, third-party-root}
 use Rattle.rules.specs.Forms.{new-certificate}
 use Rattle.rules.specs.Codes.{certificate-named}
-use Rattle.rules.specs.Effects.{phone-operator-root, enabled-by, new-executable}
+use Rattle.rules.specs.Effects.{phone-operator-root, enabled-by, new-executable, replaced}
 use Rattle.rules.specs.Computing.{computing}
 use Rattle.rules.specs.WorkedRun.{image}
 use Rattle.rules.proofs.Tests.{tests, eq→eqb, and-i, or-i, or-j}
@@ -55,15 +55,17 @@ certificate-shows f mode e c d =
     || (eqb (e .kind) 9 && third-party-root c && eqb (f d) (f (enabling (enabled-by e c) c)))
     || (eqb (e .kind) 5 && eqb (c .id) 0 && eqb (f d) (f (new-certificate mode e)))
     || (eqb (e .kind) 6 && eqb (c .id) (e .id) && eqb (f d) (f no-certificate))
+    || (eqb (e .kind) 16 && eqb (c .id) (e .id) && eqb (f d) (f (replaced e c)))
 
 certificate-shown : (f : Certificate → ℕ) (mode : ℕ) (e : Event) (c d : Certificate) → Certificate-kept mode e c d → T (certificate-shows f mode e c d)
-certificate-shown f mode e c d (Certificate-kept.same q) = let g = ap f q in search shown depth 12
-certificate-shown f mode e c d (Certificate-kept.swept k t q) = let g = ap f q in search shown depth 12
-certificate-shown f mode e c d (Certificate-kept.marked-valid k i q) = let g = ap f q in search shown depth 12
-certificate-shown f mode e c d (Certificate-kept.marked-invalid k i q) = let g = ap f q in search shown depth 12
-certificate-shown f mode e c d (Certificate-kept.enabled k t q) = let g = ap f q in search shown depth 12
-certificate-shown f mode e c d (Certificate-kept.filled k i q) = let g = ap f q in search shown depth 12
-certificate-shown f mode e c d (Certificate-kept.deleted k i q) = let g = ap f q in search shown depth 12
+certificate-shown f mode e c d (Certificate-kept.same q) = let g = ap f q in search shown depth 13
+certificate-shown f mode e c d (Certificate-kept.swept k t q) = let g = ap f q in search shown depth 13
+certificate-shown f mode e c d (Certificate-kept.marked-valid k i q) = let g = ap f q in search shown depth 13
+certificate-shown f mode e c d (Certificate-kept.marked-invalid k i q) = let g = ap f q in search shown depth 13
+certificate-shown f mode e c d (Certificate-kept.enabled k t q) = let g = ap f q in search shown depth 13
+certificate-shown f mode e c d (Certificate-kept.filled k i q) = let g = ap f q in search shown depth 13
+certificate-shown f mode e c d (Certificate-kept.deleted k i q) = let g = ap f q in search shown depth 13
+certificate-shown f mode e c d (Certificate-kept.renewed k i q) = let g = ap f q in search shown depth 13
 
 -- the same of an executable slot (x, y)
 abbrev settling-shows : (Executable → ℕ) → Executable → Executable → Bool
@@ -84,11 +86,11 @@ executable-shows f t e x y =
 
 executable-shown : (f : Executable → ℕ) (t : Trust) (e : Event) (x y : Executable) → Executable-kept t e x y → T (executable-shows f t e x y)
 executable-shown f t e x y (Executable-kept.same s) = search (shown, settling-shown) depth 12
-executable-shown f t e x y (Executable-kept.verified k i q) = let g = ap f q in search shown depth 12
+executable-shown f t e x y (Executable-kept.verified k i q) = let g = ap f q in search shown depth 13
 executable-shown f t e x y (Executable-kept.given k i s) = search (shown, settling-shown) depth 12
 executable-shown f t e x y (Executable-kept.withdrawn k i s) = search (shown, settling-shown) depth 12
-executable-shown f t e x y (Executable-kept.filled k i q) = let g = ap f q in search shown depth 12
-executable-shown f t e x y (Executable-kept.deleted k i q) = let g = ap f q in search shown depth 12
+executable-shown f t e x y (Executable-kept.filled k i q) = let g = ap f q in search shown depth 13
+executable-shown f t e x y (Executable-kept.deleted k i q) = let g = ap f q in search shown depth 13
 
 -- ---- what the frames forbid: an example for each kind
 
@@ -131,6 +133,8 @@ certificate-changes =
     ∷ changes (event 8 10 0 0 0) (root 30 0 3 1) (root 30 0 3 0) (λ c. c .mark)
     -- 9: a message changes no mark
     ∷ changes (event 9 0 0 0 0) (root 30 0 3 1) (root 30 0 3 0) (λ c. c .mark)
+    -- 16: no other than the root named is marked valid, its recovery record neither
+    ∷ changes (event 16 10 40 0 1002) (root 40 0 1 0) (root 40 0 1 1) (λ c. c .mark)
     ∷ []
 
 abbrev pub executable-changes : List (Change Executable)
@@ -149,7 +153,7 @@ executable-changes =
     ∷ []
 
 pub every-kind : (map (λ r. r .event .kind) certificate-changes ++ map (λ r. r .event .kind) executable-changes)
-    ≡ (1 ∷ 2 ∷ 3 ∷ 4 ∷ 5 ∷ 6 ∷ 7 ∷ 8 ∷ 9 ∷ 10 ∷ 11 ∷ 12 ∷ 13 ∷ 14 ∷ 15 ∷ [])
+    ≡ (1 ∷ 2 ∷ 3 ∷ 4 ∷ 5 ∷ 6 ∷ 7 ∷ 8 ∷ 9 ∷ 16 ∷ 10 ∷ 11 ∷ 12 ∷ 13 ∷ 14 ∷ 15 ∷ [])
 every-kind = refl
 
 -- the standing mode is 0

@@ -1,11 +1,11 @@
--- THE THEOREMS. Each sentence of the three demands, and of 02's first item, with its statement; the files cited hold the arguments. Assumes nothing.
+-- THE THEOREMS. Each sentence of the three demands, and of 02's items 1 and 4, with its statement; the files cited hold the arguments. Assumes nothing.
 -- l is an image and v an event, both any bytes; vs is a run of events, refused ones among them.
 -- What the statements speak of: `step`, `run` (rules, specs/Step), `code`, `rows` (specs/Codes), `accepted` (specs/ImageRules),
 -- `grants` (specs/Demands), `Chain-within`, `Shortest` (specs/Explicit), here specs/Runs and specs/MayTouch, and `event-of`, `key-named`, `phone-after`
 -- (keeping, specs/OneEvent); of a fault: `fault`, `fault-offset` (rules, specs/Faults), `Lowest-at`, `Wrong-field` (specs/Named).
 use Prim.Native.Nat.{ℕ, suc, _≤_, _<_}
 use mathlib.Core.Bool.{true, false}
-use mathlib.Core.List.{List}
+use mathlib.Core.List.{List, List·Memᴰ}
 use mathlib.Core.Logic.{_≢_, _⊎_, _↔_}
 use mathlib.Core.Path.{_≡_, ap, _∙_, subst}
 use native.Mathlib.Omega.{arith}
@@ -13,21 +13,22 @@ use lib.Dec.{T}
 use lib.ListN.{length, getD}
 use Rattle.records.specs.Sizes.{header-size}
 use Rattle.records.specs.Layout.{certificate-read, card-read, executable-read, row-read}
-use Rattle.records.specs.Phone.{decode, encode, certificate-at, card-at, executable-at, row-at}
+use Rattle.records.specs.Phone.{Trust, Phone, decode, encode, certificate-at, card-at, executable-at, row-at}
 use Rattle.records.specs.Frame.{framed}
 use Rattle.records.specs.declared.Certificate.{Certificate}
+use Rattle.records.specs.declared.Event.{Event}
 use Rattle.records.proofs.RoundTrip.{decode-encode}
 use Rattle.rules.specs.declared.Site.{Site}
-use Rattle.rules.specs.Words.{all}
-use Rattle.rules.specs.Chains.{most-links}
-use Rattle.rules.specs.Explicit.{Chain-within, Shortest}
+use Rattle.rules.specs.Words.{at, all}
+use Rattle.rules.specs.Chains.{good, most-links}
+use Rattle.rules.specs.Explicit.{Chain, Chain-within, Shortest}
 use Rattle.rules.specs.ImageRules.{i2, i4, i5, row-fits, i7, i8, accepted, «open», cards-fit, present-known, places-known}
 use Rattle.rules.specs.Faults.{of-certificates, of-executables, at-rule, no-fault, fault, fault-offset}
 use Rattle.rules.specs.FaultNames.{rules, is-right, i1-fields, Wrong-field, Lowest-at, Wrong-card, Within}
-use Rattle.rules.specs.Codes.{executable-named, rows, code}
-use Rattle.rules.specs.Effects.{changed}
+use Rattle.rules.specs.Codes.{has-id, makes-valid, certificate-named, executable-named, rows, code}
+use Rattle.rules.specs.Effects.{replaced, changed}
 use Rattle.rules.specs.Step.{refused-at, refusal, step, run}
-use Rattle.rules.specs.Demands.{grants}
+use Rattle.rules.specs.Demands.{grants, withdrawing, giving}
 use Rattle.rules.proofs.Tests.{eq→eqb}
 use Rattle.rules.proofs.Accepts.{accepted-out}
 use Rattle.rules.proofs.Shortest.{chain-chains}
@@ -36,6 +37,7 @@ use Rattle.rules.proofs.Where as Where
 use Rattle.demands.specs.Runs.{Applies, Withdrawing-run, Giving-run, verified, Valid-operator, Granted}
 use Rattle.keeping.specs.OneEvent.{event-of, key-named, phone-after}
 use Rattle.demands.specs.MayTouch.{Framed-change}
+use Rattle.demands.specs.RecoveryKeys.{Recovery-fits, Replaces}
 use Rattle.demands.proofs.LowestRow.{first-applies, first-lowest}
 use Rattle.keeping.proofs.Bytes
 use Rattle.keeping.proofs.EventAnswers
@@ -43,6 +45,7 @@ use Rattle.demands.proofs.TouchNoMore.{framed-changed}
 use Rattle.keeping.proofs.AcceptedKept.{one-operator}
 use Rattle.demands.proofs.Grant.{granted-exact}
 use Rattle.demands.proofs.Demand3
+use Rattle.demands.proofs.Recovering
 
 -- ==== Demand 1: any image and any event gets one answer from the table
 
@@ -107,10 +110,11 @@ module _ (l v : List ℕ) where
   pub event-frame : code l v ≡ 0 → Framed-change (event-of v) (decode l) (phone-after l v)
   event-frame h = rw (event-phone h) (framed-changed (event-of v) (decode l) (eq→eqb _ 0 (Bytes.code-whole-out l v h .code)))
 
-  -- "No rule marks a key valid by itself.": a slot that is valid was valid before, or this event is "mark valid" of its id, or an install into it
+  -- "No rule marks a key valid by itself.": a slot that is valid was valid before, or this event is "mark valid" or "replace" of its id, or an install
+  -- into it
   pub no-mark-by-itself : (i : ℕ) → certificate-at (phone-after l v) i .mark ≡ 1
       → (certificate-at (decode l) i .mark ≡ 1)
-      ⊎ ((event-of v .kind ≡ 7) × (certificate-at (decode l) i .id ≡ event-of v .id))
+      ⊎ (T (makes-valid (event-of v .kind)) × (certificate-at (decode l) i .id ≡ event-of v .id))
       ⊎ ((event-of v .kind ≡ 5) × (certificate-at (decode l) i .id ≡ 0))
   no-mark-by-itself i h = Bytes.marks-step l v i h
 
@@ -287,3 +291,36 @@ module _ (l : List ℕ) where
 
   pub row-begins : (i : ℕ) → fault l .site ≡ Site.Row i → row-at (decode l) i ≡ row-read l (fault-offset l)
   row-begins i e = rw e (Where.row-begins l i (subst (Within l) e (Where.fault-within l) .1))
+
+-- ==== 02, item 4: recovery keys
+
+-- "it is never a trusted root and never a link": no chain, to any domain and from any key, has one
+pub recovery-in-no-chain : (t : Trust) (d k : ℕ) (records : List Certificate) → Chain t d k records
+    → (c : Certificate) → List·Memᴰ c records → c .kind ≢ 2
+recovery-in-no-chain t d k records h c m q = Recovering.in-no-chain t d h c m q
+
+-- and so it makes no record good, within any number of links
+pub recovery-never-good : (n : ℕ) (t : Trust) (c : Certificate) → c .kind ≡ 2 → good n t c ≡ false
+recovery-never-good n t c q = Recovering.never-good n t c q
+
+module _ (l : List ℕ) (ok : accepted l ≡ true) (vs : List (List ℕ)) where
+  -- "phone only, domain 1 or 2, verifying key 0, mark 0, enabled 1", whatever happened since the image was accepted
+  pub recovery-fits : (c : Certificate) → List·Memᴰ c (decode (run l vs) .trust .certificates) → c .kind ≡ 2 → Recovery-fits c
+  recovery-fits c m q = Recovering.as-asked (decode (run l vs)) (accepted-out (run l vs) (accepted-kept-run l ok vs) .1) c m q
+
+module _ (l v : List ℕ) (done : code l v ≡ 0) (replace : event-of v .kind ≡ 16) where
+  -- "allowed to the actor of the domain of id's record, and to nobody where either record is a third party one"; 23.057 "forbids using it to replace a
+  -- root of another owner"; "second is no recovery record, either record is not on the phone, domains or owners (the event's included) differ, or the
+  -- verifying key is not the recovery key": of a replace that is done none of these is so
+  pub replaces-its-own : Replaces (event-of v) (certificate-named (decode l) (event-of v .id)) (certificate-named (decode l) (event-of v .second))
+  replaces-its-own = Recovering.replaces (decode l) (event-of v) replace (eq→eqb _ 0 (Bytes.code-whole-out l v done .code))
+
+  -- "The root keeps its id and slot, takes the new key, owner and expiry, and is marked valid.": and every other slot is as it was
+  pub replace-exact : (i : ℕ) → certificate-at (phone-after l v) i ≡ at (has-id (event-of v .id)) (replaced (event-of v)) (certificate-at (decode l) i)
+  replace-exact i =
+      rw (event-phone l v done)
+      (Recovering.replaced-slots (decode l) (event-of v) replace (eq→eqb _ 0 (Bytes.code-whole-out l v done .code)) i)
+
+-- "It belongs to neither list of demand 3.", whatever phone it meets; `gaining` and `losing` (Examples) have a replace that breaks each claim
+pub replace-in-neither : (p : Phone) (e : Event) → e .kind ≡ 16 → (withdrawing p e ≡ false) × (giving p e ≡ false)
+replace-in-neither p e k = Recovering.in-neither p e k

@@ -16,7 +16,7 @@ use Rattle.rules.specs.ImageRules.{free-certificate, free-executable, third-par
 use Rattle.rules.specs.Forms.{with-kind}
 use Rattle.rules.specs.Codes.{has-id, is-executable, certificate-named, code-of}
 use Rattle.rules.specs.Effects.{phone-operator-root, retired, card-rule, card-in, card-out, power-up, on-a-card, after-marking, mark-valid}
-use Rattle.rules.specs.Effects.{effect, settled, settle, changed}
+use Rattle.rules.specs.Effects.{replaced, effect, settled, settle, changed}
 use Rattle.rules.proofs.Tests.{tests}
 use Rattle.rules.proofs.Changes.{at-cases, map-at, change-at, fill-at}
 use Rattle.demands.specs.MayTouch.{Certificate-kept, Up-to-settling, Executable-kept, Framed-change}
@@ -145,6 +145,10 @@ touched e p h =
       give = executable-named-at (with-kind 13 e) p _ (λ x i. Executable-kept.given refl i (inl refl));
       withdraw = executable-named-at (with-kind 14 e) p _ (λ x i. Executable-kept.withdrawn refl i (inl refl));
       request = of-executables (with-kind 15 e) p (p .executables) (λ i. stays _);
+      replace =
+          of-certificates (with-kind 16 e) p _
+          (certificates-at (with-kind 16 e) p (has-id (e .id)) (replaced (with-kind 16 e))
+          (λ c t. Certificate-kept.renewed refl (eqb→eq (c .id) (e .id) t) refl));
     })
     (e .kind) p e (unrefused p e h .formed)
   where

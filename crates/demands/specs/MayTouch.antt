@@ -14,7 +14,7 @@ use Rattle.rules.specs.Words.{between}
 use Rattle.rules.specs.Chains.{chain-of}
 use Rattle.rules.specs.ImageRules.{third-party-root}
 use Rattle.rules.specs.Forms.{new-certificate}
-use Rattle.rules.specs.Effects.{phone-operator-root, enabled-by, new-executable}
+use Rattle.rules.specs.Effects.{phone-operator-root, enabled-by, new-executable, replaced}
 
 -- a certificate slot before (c) and after (d) an event on a phone with this standing mode: kept, or changed as the kind changes it
 pub data Certificate-kept (mode : ℕ) (e : Event) (c d : Certificate) : Type 0 where
@@ -30,6 +30,8 @@ pub data Certificate-kept (mode : ℕ) (e : Event) (c d : Certificate) : Type 0 
   filled : e .kind ≡ 5 → c .id ≡ 0 → d ≡ new-certificate mode e → Certificate-kept mode e c d
   -- 6: the one named is deleted
   deleted : e .kind ≡ 6 → c .id ≡ e .id → d ≡ no-certificate → Certificate-kept mode e c d
+  -- 16: the one named has the new key, owner and expiry, and is marked valid
+  renewed : e .kind ≡ 16 → c .id ≡ e .id → d ≡ replaced e c → Certificate-kept mode e c d
 
 -- the settling leaves an executable as it is or takes its domain
 abbrev pub Up-to-settling : Executable → Executable → Type 0

@@ -50,7 +50,7 @@ power-up-rows p e =
 module _ (p : Phone) (e : Event) (a : e .actor < 5) where
   pub clock-told : {r : ℕ} → Gives r (clock-rows p e) → r ≡ code-of p (with-kind 1 e)
   unfolding the-table
-  clock-told g = gives g ∙ simp (small-actor e a, and-true)
+  clock-told g = gives g ∙ simp (small-actor e a, and-true, or-false)
 
   pub card-in-told : {r : ℕ} → Gives r (card-in-rows p e) → r ≡ code-of p (with-kind 2 e)
   unfolding the-table
@@ -58,11 +58,11 @@ module _ (p : Phone) (e : Event) (a : e .actor < 5) where
 
   pub card-out-told : {r : ℕ} → Gives r (card-out-rows p e) → r ≡ code-of p (with-kind 3 e)
   unfolding the-table
-  card-out-told g = gives g ∙ simp (small-actor e a, and-true)
+  card-out-told g = gives g ∙ simp (small-actor e a, and-true, or-false)
 
   pub power-up-told : {r : ℕ} → Gives r (power-up-rows p e) → r ≡ code-of p (with-kind 4 e)
   unfolding the-table
-  power-up-told g = gives g ∙ simp (small-actor e a, and-true)
+  power-up-told g = gives g ∙ simp (small-actor e a, and-true, or-false)
 
 -- ---- what a number that was read tells of what stands there, as a test against 0
 

@@ -60,9 +60,9 @@ above : (n m : ℕ) → n ≢ 0 → None-of n (down-from m) → m < n
 above n zero z h = omega arith
 above n (suc m) z h = let r = above n m z (h .0) in let d = h .1 in omega arith
 
--- no kind but 1 to 15 has a form
-no-kind : (k : ℕ) → None-of k (0 ∷ down-from 15) → getD forms k no-form ≡ no-form
-no-kind k h = List·getD-eq-default forms no-form {n = k} (above k 15 (h .1) (h .0))
+-- no kind but 1 to 16 has a form
+no-kind : (k : ℕ) → None-of k (0 ∷ down-from 16) → getD forms k no-form ≡ no-form
+no-kind k h = List·getD-eq-default forms no-form {n = k} (above k 16 (h .1) (h .0))
 
 no-form-code : (p : Phone) (e : Event) → getD forms (e .kind) no-form ≡ no-form → 2 ≡ code-of p e
 unfolding code-of first malformed no-form
@@ -74,7 +74,7 @@ no-form-code p e h = let m : malformed p e ≡ true = ap (λ x. not (leb (e .act
 
 -- n is the kind that was read
 module _ {l : List ℕ} {e : Event} where
-  pub no-such-kind : {n : ℕ} → n ≡ e .kind → None-of n (0 ∷ down-from 15) → {x : Answer} → x ≡ refused 2 → Handled l e x l
+  pub no-such-kind : {n : ℕ} → n ≡ e .kind → None-of n (0 ∷ down-from 16) → {x : Answer} → x ≡ refused 2 → Handled l e x l
   no-such-kind {n} i h =
       handled-refused (no-form-code (decode l) e (ap (λ n. getD forms n no-form) (sym i) ∙ no-kind n h)) (λ z. omega arith)
 

@@ -36,7 +36,8 @@ fn handle(s: &mut [u8], v: &[u8]) -> Answer
         13 => executables::give(s, Event::read(v, 0)),
         14 => executables::withdraw(s, Event::read(v, 0)),
         15 => executables::request(s, Event::read(v, 0)),
-        0 | 16..=255 => handling::refused(2),
+        16 => certificates::replace(s, Event::read(v, 0)),
+        0 | 17..=255 => handling::refused(2),
     }
 }
 

@@ -32,7 +32,7 @@ request-rows p e x = (not (action-form p e) ⇒ 2) ∷ (executable-rows 15 p e +
 module _ (p : Phone) (e : Event) (a : e .actor < 5) where
   pub install-executable-told : {r : ℕ} → Gives r (install-executable-rows p e) → r ≡ code-of p (with-kind 10 e)
   unfolding the-table
-  install-executable-told g = gives g ∙ simp (small-actor e a, and-true)
+  install-executable-told g = gives g ∙ simp (small-actor e a, and-true, or-false)
 
   pub delete-executable-told : first ((not (id-form p e) ⇒ 2) ∷ executable-rows 11 p e) ≡ code-of p (with-kind 11 e)
   unfolding the-table

@@ -13,6 +13,7 @@ use Rattle.rules.specs.Forms.{with-kind}
 use Rattle.rules.specs.Effects.{effect, install-executable, delete-executable, verify, give, withdraw}
 use Rattle.rules.specs.Step.{answer-done, done}
 use Rattle.handling.specs.Handled.{Handled}
+use Rattle.keeping.proofs.Unrefused.{id-formed}
 use Rattle.handling.proofs.Handles.{handled-done, handled-still, accepted-phone, named-id, acted-id, acted-action}
 use Rattle.executables.proofs.ActsOnExecutable.{Acts}
 use Rattle.executables.proofs.Tells.{verify-tells, request-tells}
@@ -21,10 +22,10 @@ use Rattle.executables.proofs.Untouched.{install-still, delete-still, v
 module _ {l : List ℕ} {e : Event} {i : ℕ} where
   -- it names an id, and an action of the table
   pub delete-asks : Acts 11 (e .id) l e i → 0 < e .id
-  delete-asks a = named-id (decode l) e 11 (a .code) (λ h. h)
+  delete-asks a = named-id (decode l) e 11 (a .code) (id-formed (decode l) (with-kind 11 e))
 
   pub verify-asks : Acts 12 (e .id) l e i → 0 < e .id
-  verify-asks a = named-id (decode l) e 12 (a .code) (λ h. h)
+  verify-asks a = named-id (decode l) e 12 (a .code) (id-formed (decode l) (with-kind 12 e))
 
   pub give-asks : Acts 13 (e .id) l e i → (0 < e .id) × (e .second < length (decode l .table))
   give-asks a = (acted-id (decode l) e 13 (a .code) (λ h. h), acted-action (decode l) e 13 (a .code) (λ h. h))

@@ -15,7 +15,7 @@ use Rattle.rules.proofs.Tests.{tests, eq→eqb, neqb→ne, by-test, not-elim, f
 use Rattle.rules.proofs.Lists.{any-in}
 use Rattle.rules.proofs.Accepted.{Occupied, Held}
 use Rattle.rules.proofs.Domain.{chain-domain-is}
-use Rattle.explanations.specs.Why.{signed, reasons, reason}
+use Rattle.explanations.specs.Why.{said-recovery, signed, reasons, reason}
 use Rattle.explanations.specs.Claims.{First, here, later}
 
 pub first-is : (l : List Check) → first l ≢ 0 → First (first l) l
@@ -24,17 +24,24 @@ first-is [] h = absurd (h refl)
 first-is ((true ⇒ n) ∷ l) h = here tt
 first-is ((false ⇒ n) ∷ l) h = later tt (first-is l h)
 
+-- "a reason before the others"
+pub recovery-first : (t : Trust) (c : Certificate) → c .kind ≡ 2 → reason t c ≡ said-recovery
+unfolding reason first
+recovery-first t c r = rw r
+
 -- a record of which no reason holds is good
 no-reason : (t : Trust) (c : Certificate) → Occupied c → reason t c ≡ 0 → T (good most-links t c)
 unfolding reason good link trusted-root valid-root
 no-reason t c o z =
     let w = first-out (reasons t c) tt (eq→eqb (reason t c) 0 z) in
-    let here : T (present (t .seen) c) = not-elim (present (t .seen) c) (w .0) in
-    let marked : c .mark ≡ 1 = omega (arith, neqb→ne (c .mark) 0 (w .1 .0), o .mark) in
-    let on : c .enabled ≡ 1 = omega (arith, neqb→ne (c .enabled) 0 (w .1 .1 .0), o .enabled) in
-    let dated : T (in-date (t .seen .clock) c) = not-elim (in-date (t .seen .clock) c) (w .1 .1 .1 .0) in
-    let verified : T (signed t c) = not-elim (signed t c) (w .1 .1 .1 .1 .0) in
-    by-test (eqb (c .kind) 0) (λ root. search tests) (λ nr. let issued : c .kind ≡ 1 = omega (arith, neqb→ne (c .kind) 0 nr, o .kind) in search tests)
+    let others = w .1 in
+    let here : T (present (t .seen) c) = not-elim (present (t .seen) c) (others .0) in
+    let marked : c .mark ≡ 1 = omega (arith, neqb→ne (c .mark) 0 (others .1 .0), o .mark) in
+    let on : c .enabled ≡ 1 = omega (arith, neqb→ne (c .enabled) 0 (others .1 .1 .0), o .enabled) in
+    let dated : T (in-date (t .seen .clock) c) = not-elim (in-date (t .seen .clock) c) (others .1 .1 .1 .0) in
+    let verified : T (signed t c) = not-elim (signed t c) (others .1 .1 .1 .1 .0) in
+    by-test (eqb (c .kind) 0) (λ root. search tests)
+    (λ nr. let issued : c .kind ≡ 1 = omega (arith, neqb→ne (c .kind) 0 nr, neqb→ne (c .kind) 2 (w .0), o .kind) in search tests)
 
 module _ (cards : List Card) (t : Trust) (h : Held cards (t .certificates)) where
   -- a slot of which something is not 0 is occupied

@@ -1,5 +1,5 @@
 -- The lines that give a reason: each names a stored record with the key and its first true reason, and no record is missed. Assumes nothing.
-use Prim.Native.Nat.{_<_}
+use Prim.Native.Nat.{_≤_, _<_}
 use mathlib.Core.Bool.{not}
 use mathlib.Core.List.{List, [], _∷_, List·Memᴰ, List·Memᴰ·not-nil, List·Memᴰ·append-cases, List·Memᴰ·eq-of-singleton, Memᴰ·map, Memᴰ·of-map, reverse, map}
 use mathlib.Core.Logic.{_≢_, _⊎_, inl, inr}
@@ -58,9 +58,9 @@ module _ (cards : List Card) (t : Trust) (h : Held cards (t .certificates)) (x :
         first = first-is (reasons t (o .0)) (refusal-some s u (o .0) (w .0) (w .1));
       })
 
-  pub refusal-told : (n : Line) → List·Memᴰ n (explained t x) → 10 < n .what → Refusal t (x .signing) n
+  pub refusal-told : (n : Line) → List·Memᴰ n (explained t x) → 10 ≤ n .what → Refusal t (x .signing) n
   refusal-told n =
-      explained-cases t x (λ l. List·Memᴰ n l → 10 < n .what → Refusal t (x .signing) n)
+      explained-cases t x (λ l. List·Memᴰ n l → 10 ≤ n .what → Refusal t (x .signing) n)
       (λ c m b. absurd (omega (arith, chain-what t x n m)))
       (λ u m b. absurd (omega (arith, ap (λ n. n .what) (List·Memᴰ·eq-of-singleton m))))
       (λ s u m b. absurd (omega (arith, ap (λ n. n .what) (List·Memᴰ·eq-of-singleton m))))

@@ -1,7 +1,7 @@
 -- THE THEOREMS of 02, item 2, for an accepted phone p and any executable x. Each sentence with its statement. Assumes nothing.
 -- What they speak of: `explained`, `reasons`, `holders`, `its-chain` (specs/Why), `First`, `Refusal`, `Rising`, `Lowest-each`,
 -- `cases` (specs/Claims), and `Chain`, `Shortest` (rules, specs/Explicit).
-use Prim.Native.Nat.{ℕ, _≤_, _<_}
+use Prim.Native.Nat.{ℕ, _≤_}
 use mathlib.Core.Bool.{true, not}
 use mathlib.Core.List.{List, [], _∷_, map, List·Memᴰ, map-map}
 use mathlib.Core.Logic.{_≢_, _↔_}
@@ -23,10 +23,12 @@ use Rattle.rules.proofs.Tests.{neqb→ne}
 use Rattle.rules.proofs.Accepted.{Accepted}
 use Rattle.rules.proofs.Accepts.{accepted-out}
 use Rattle.rules.proofs.Domain.{one-domain}
-use Rattle.explanations.specs.Why.{Line, holders, its-domain, its-chain, reasons, reason, reason-line, untrusted-line, unsigned-line, unheld-line}
+use Rattle.explanations.specs.Why.{Line, holders, its-domain, its-chain, said-recovery, reasons, reason}
+use Rattle.explanations.specs.Why.{reason-line, untrusted-line, unsigned-line, unheld-line}
 use Rattle.explanations.specs.Why.{chained, unsigned, held, despite, chain-lines, reason-lines, explained, explanation}
 use Rattle.explanations.specs.Claims.{count, cases, Rising, Refusal, Lowest-each, Not-after}
 use Rattle.explanations.proofs.LowestId.{cond-cases}
+use Rattle.explanations.proofs.Reasons.{recovery-first}
 use Rattle.explanations.proofs.Refusals.{refusal-told, refusal-some, refusal-each}
 use Rattle.explanations.proofs.Holders.{holders-rising, holders-out, holders-in}
 use Rattle.explanations.proofs.Climb.{told-shortest, told-lowest}
@@ -73,9 +75,13 @@ module _ (p : Phone) (ok : Accepted p) (x : Executable) where
 
   -- ==== The reasons
 
-  -- "The named reason is true, those before it are not": a line with a reason (its number is above 10) names a stored record with the signing key
-  pub why-true : (n : Line) → List·Memᴰ n (explained (p .trust) x) → 10 < n .what → Refusal (p .trust) (x .signing) n
+  -- "The named reason is true, those before it are not": a line with a reason (its number is 10 or above) names a stored record with the signing key
+  pub why-true : (n : Line) → List·Memᴰ n (explained (p .trust) x) → 10 ≤ n .what → Refusal (p .trust) (x .signing) n
   why-true n m r = refusal-told (p .cards) (p .trust) (ok .trust .held) x n m r
+
+  -- 02, item 4, of a recovery record: "for Item 2 that is a reason before the others"
+  pub why-recovery : (c : Certificate) → c .kind ≡ 2 → reason (p .trust) c ≡ said-recovery
+  why-recovery c r = recovery-first (p .trust) c r
 
   -- a reason there always is
   pub why-some : T (not (unsigned x)) → T (not (chained (p .trust) x)) → (c : Certificate) → List·Memᴰ c (p .trust .certificates)

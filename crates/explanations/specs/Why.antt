@@ -67,7 +67,10 @@ said-unheld = 3
 abbrev pub said-untrusted : ℕ
 said-untrusted = 4
 
--- a reason is above 10
+-- a reason is 10 or above
+abbrev pub said-recovery : ℕ
+said-recovery = 10
+
 abbrev pub said-absent : ℕ
 said-absent = 11
 
@@ -90,9 +93,11 @@ abbrev pub signed : Trust → Certificate → Bool
 signed t c = any (serves (good 3 t) (c .domain) (c .verifying)) (t .certificates)
 
 -- "the first true reason of these: on an absent card; marked invalid; disabled; past its date; no good signer within three links"
+-- 02, item 4, of a recovery record: "never a trusted root and never a link, and for Item 2 that is a reason before the others"
 abbrev pub reasons : Trust → Certificate → List Check
 reasons t c =
-    (not (present (t .seen) c) ⇒ said-absent)
+    (eqb (c .kind) 2 ⇒ said-recovery)
+    ∷ (not (present (t .seen) c) ⇒ said-absent)
     ∷ (eqb (c .mark) 0 ⇒ said-invalid)
     ∷ (eqb (c .enabled) 0 ⇒ said-disabled)
     ∷ (not (in-date (t .seen .clock) c) ⇒ said-past)

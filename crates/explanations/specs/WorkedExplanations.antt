@@ -1,4 +1,5 @@
 -- Explanations of images of 01, computed. Assumes nothing.
+use mathlib.Core.Bool.{true}
 use mathlib.Core.List.{List, [], _∷_}
 use mathlib.Core.Path.{_≡_, refl}
 use lib.ListN.{take}
@@ -6,11 +7,14 @@ use Prim.Native.Nat.{ℕ}
 use Rattle.records.specs.Phone.{Trust, decode, no-certificate}
 use Rattle.records.specs.declared.Certificate.{Certificate}
 use Rattle.records.specs.declared.Executable.{Executable}
+use Rattle.rules.specs.Words.{_⇒_}
 use Rattle.rules.specs.Step.{run}
 use Rattle.rules.specs.Computing.{computing}
 use Rattle.rules.specs.WorkedRun.{image, events, chains-image}
-use Rattle.explanations.specs.Why.{lowest, by-id, holders, climb, chain-told, reason, line, chained, unsigned, held, despite, explained, explanation}
-use Rattle.explanations.specs.Why.{said-link, said-unsigned, said-unheld, said-untrusted, said-absent, said-invalid, said-past, said-unserved}
+use Rattle.explanations.specs.Why.{lowest, by-id, holders, climb, chain-told, reasons, reason, line}
+use Rattle.explanations.specs.Why.{chained, unsigned, held, despite, explained, explanation}
+use Rattle.explanations.specs.Why.{said-link, said-unsigned, said-unheld, said-untrusted}
+use Rattle.explanations.specs.Why.{said-recovery, said-absent, said-invalid, said-disabled, said-past, said-unserved}
 
 -- a certificate of domain 3 and an executable, with what varies between the examples; a trust with no card, at clock 0
 abbrev pub root : ℕ → ℕ → ℕ → ℕ → Certificate
@@ -18,6 +22,10 @@ root i p m k = record { id = i; place = p; kind = 0; domain = 3; mark = m; enabl
 
 abbrev pub issued : ℕ → ℕ → ℕ → Certificate
 issued i k v = record { id = i; place = 0; kind = 1; domain = 3; mark = 1; enabled = 1; key = k; verifying = v; owner = 1; expiry = 0 }
+
+-- "phone only, domain 1 or 2, verifying key 0, mark 0, enabled 1"
+abbrev pub recovery : ℕ → ℕ → Certificate
+recovery i k = record { id = i; place = 0; kind = 2; domain = 2; mark = 0; enabled = 1; key = k; verifying = 0; owner = 1; expiry = 0 }
 
 abbrev pub signed-by : ℕ → Executable
 signed-by k = record { id = 1; domain = 0; blank = 0; signing = k; permissions = 0 }
@@ -62,6 +70,35 @@ pub refused : explained (holding (root 9 0 0 5 ∷ no-certificate ∷ root 4 2 0
     ≡ (line said-absent 4 ∷ line said-unserved 7 ∷ line said-invalid 9 ∷ [])
 unfolding telling
 refused = refl
+
+-- a recovery key is told as such, though it is marked invalid and nothing verifies it
+pub recovered : explained (holding (root 9 0 1 6 ∷ recovery 40 5 ∷ [])) (signed-by 5) ≡ (line said-recovery 40 ∷ [])
+unfolding telling
+recovered = refl
+
+-- a recovery key of which every other reason holds as well: on an absent card, disabled, and at a clock past its date
+abbrev pub hopeless : Certificate
+hopeless = record { id = 40; place = 2; kind = 2; domain = 2; mark = 0; enabled = 0; key = 5; verifying = 0; owner = 1; expiry = 0 }
+
+abbrev pub hopeless-alone : Trust
+hopeless-alone = record { seen = record { clock = 1; card = 0 }; certificates = hopeless ∷ [] }
+
+pub every-reason : reasons hopeless-alone hopeless
+    ≡ (
+    (true ⇒ said-recovery)
+    ∷ (true ⇒ said-absent)
+    ∷ (true ⇒ said-invalid)
+    ∷ (true ⇒ said-disabled)
+    ∷ (true ⇒ said-past)
+    ∷ (true ⇒ said-unserved)
+    ∷ []
+    )
+unfolding telling
+every-reason = refl
+
+pub before-others : explained hopeless-alone (signed-by 5) ≡ (line said-recovery 40 ∷ [])
+unfolding telling
+before-others = refl
 
 -- an unsigned executable, and one whose key nobody holds; a free slot has key 0 and is nobody
 pub nobody : explained (holding (no-certificate ∷ root 9 0 1 5 ∷ [])) (signed-by 0) ≡ (line said-unsigned 1 ∷ [])

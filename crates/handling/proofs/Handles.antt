@@ -13,14 +13,14 @@ use Rattle.records.specs.Frame.{Framed}
 use Rattle.records.specs.declared.Event.{Event}
 use Rattle.records.proofs.RoundTrip.{decode-encode, framed-encode}
 use Rattle.rules.specs.declared.Answer.{Answer}
-use Rattle.rules.specs.Forms.{with-kind, forms, no-form, id-form, action-form}
+use Rattle.rules.specs.Forms.{with-kind, forms, no-form, action-form}
 use Rattle.rules.specs.Codes.{code-of}
 use Rattle.rules.specs.Effects.{effect, settle, changed}
 use Rattle.rules.specs.Step.{refused, answer-done, done}
 use Rattle.rules.proofs.Tests.{eq→eqb}
 use Rattle.rules.proofs.Accepted.{Accepted}
 use Rattle.rules.proofs.Accepts.{accepted-out}
-use Rattle.keeping.proofs.Unrefused.{unrefused, id-formed, action-formed}
+use Rattle.keeping.proofs.Unrefused.{unrefused, action-formed}
 use Rattle.keeping.proofs.Shape.{shape-effect, sized-shape}
 use Rattle.rules.specs.AcceptedImage.{Accepted-image}
 use Rattle.rules.proofs.Promise.{executable-domain}
@@ -95,8 +95,8 @@ module _ (p : Phone) (e : Event) (k : ℕ) (z : code-of p (with-kind k e) ≡ 0)
   formed = unrefused p (with-kind k e) (eq→eqb (code-of p (with-kind k e)) 0 z) .formed
 
   -- the event that is done names an id, and an action of the table: its form says so
-  pub named-id : (T (getD forms k no-form p (with-kind k e)) → T (id-form p (with-kind k e))) → 0 < e .id
-  named-id f = let n = id-formed p (with-kind k e) (f formed) in omega arith
+  pub named-id : (T (getD forms k no-form p (with-kind k e)) → e .id ≢ 0) → 0 < e .id
+  named-id f = let n = f formed in omega arith
 
   pub acted-id : (T (getD forms k no-form p (with-kind k e)) → T (action-form p (with-kind k e))) → 0 < e .id
   acted-id f = let n = action-formed p (with-kind k e) (f formed) .0 in omega arith

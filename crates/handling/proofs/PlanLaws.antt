@@ -12,7 +12,7 @@ use Rattle.records.specs.Phone.{Phone}
 use Rattle.records.specs.declared.Event.{Event}
 use Rattle.rules.specs.Words.{between, any, Check, _⇒_, first, first-place}
 use Rattle.rules.specs.Forms.{listed, with-kind}
-use Rattle.rules.specs.Codes.{has-id, is-executable, certificate-known, executable-known, id-unknown, no-free-slot, code-of}
+use Rattle.rules.specs.Codes.{has-id, is-executable, names-certificate, certificate-known, executable-known, id-unknown, no-free-slot, code-of}
 use Rattle.rules.proofs.Accepts.{T-true}
 use Rattle.rules.proofs.Tests.{and-l, and-r, eq→eqb, nor-l, coded}
 use Rattle.keeping.proofs.Unrefused.{unrefused}
@@ -90,27 +90,37 @@ second-of-three : (a b k c : Bool) → T (not ((a || (b && not k)) || c)) → T 
 second-of-three a b k c h t = second-of-two a b k (nor-l (a || (b && not k)) c h) t
 
 module _ (p : Phone) (e : Event) (k : ℕ) (z : code-of p (with-kind k e) ≡ 0) where
-  known-id : T (not (id-unknown p (with-kind k e)))
-  known-id = unrefused p (with-kind k e) (eq→eqb (code-of p (with-kind k e)) 0 z) .known
+  -- of the two records that a replace names the second is left aside
+  abbrev one-unknown : Bool
+  one-unknown =
+      (names-certificate k && not (certificate-known p (e .id)))
+      || (between 11 15 k && not (executable-known p (e .id)))
+      || (eqb k 9 && any (λ n. not (certificate-known p n)) (listed e))
+
+  known-ids : T (not one-unknown)
+  unfolding id-unknown
+  known-ids =
+      nor-l one-unknown (eqb k 16 && not (certificate-known p (e .second)))
+      (unrefused p (with-kind k e) (eq→eqb (code-of p (with-kind k e)) 0 z) .known)
 
   has-room : T (not (no-free-slot p (with-kind k e)))
   has-room = unrefused p (with-kind k e) (eq→eqb (code-of p (with-kind k e)) 0 z) .room
 
-  pub certificate-within : T (between 6 8 k) → first-place (has-id (e .id)) (p .trust .certificates) < length (p .trust .certificates)
-  unfolding id-unknown certificate-known
+  pub certificate-within : T (names-certificate k) → first-place (has-id (e .id)) (p .trust .certificates) < length (p .trust .certificates)
+  unfolding certificate-known
   certificate-within h =
       first-within (has-id (e .id)) (p .trust .certificates) refl
       (T-true (any (has-id (e .id)) (p .trust .certificates))
-      (first-of-three (between 6 8 k) (certificate-known p (e .id)) (between 11 15 k && not (executable-known p (e .id)))
-      (eqb k 9 && any (λ n. not (certificate-known p n)) (listed e)) known-id h))
+      (first-of-three (names-certificate k) (certificate-known p (e .id)) (between 11 15 k && not (executable-known p (e .id)))
+      (eqb k 9 && any (λ n. not (certificate-known p n)) (listed e)) known-ids h))
 
   pub executable-within : T (between 11 15 k) → first-place (is-executable (e .id)) (p .executables) < length (p .executables)
-  unfolding id-unknown executable-known
+  unfolding executable-known
   executable-within h =
       first-within (is-executable (e .id)) (p .executables) refl
       (T-true (any (is-executable (e .id)) (p .executables))
-      (second-of-three (between 6 8 k && not (certificate-known p (e .id))) (between 11 15 k) (executable-known p (e .id))
-      (eqb k 9 && any (λ n. not (certificate-known p n)) (listed e)) known-id h))
+      (second-of-three (names-certificate k && not (certificate-known p (e .id))) (between 11 15 k) (executable-known p (e .id))
+      (eqb k 9 && any (λ n. not (certificate-known p n)) (listed e)) known-ids h))
 
   pub free-certificate-within : T (eqb k 5) → first-place (has-id 0) (p .trust .certificates) < length (p .trust .certificates)
   unfolding no-free-slot

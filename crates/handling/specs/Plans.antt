@@ -1,6 +1,6 @@
 -- What is decided of an event before anything is written: its code, or the slot that it is about. Definitions only.
 use Prim.Native.Nat.{ℕ}
-use mathlib.Core.Bool.{cond, not}
+use mathlib.Core.Bool.{Bool, cond, not, _||_}
 use mathlib.Core.List.{List, [], _∷_}
 use lib.Dec.{eqb}
 use Rattle.records.specs.Phone.{Phone}
@@ -34,10 +34,11 @@ for-executable k p e = plan (code-of p (with-kind k e)) (first-place (is-executa
 
 -- ---- what stands against an event of kind k on the record that it names, besides its form
 
-abbrev pub certificate-rows : ℕ → Phone → Event → List Check
-certificate-rows k p e =
+-- and where it may be that nobody is allowed
+abbrev pub certificate-rows : ℕ → Bool → Phone → Event → List Check
+certificate-rows k nobody p e =
     (not (certificate-known p (e .id)) ⇒ 3)
-    ∷ (not (may-act k (certificate-named p (e .id) .domain) (e .actor)) ⇒ 4)
+    ∷ (not (may-act k (certificate-named p (e .id) .domain) (e .actor)) || nobody ⇒ 4)
     ∷ (not (present (p .trust .seen) (certificate-named p (e .id))) ⇒ 8)
     ∷ []
 

@@ -1,4 +1,4 @@
--- An event taken by its kind: by any of the fifteen, and by those that withdraw. Assumes nothing.
+-- An event taken by its kind: by any of the sixteen, and by those that withdraw. Assumes nothing.
 use Prim.Native.Nat.{ℕ, zero, suc}
 use mathlib.Core.Bool.{Bool, true, false, _&&_, _||_}
 use mathlib.Core.Path.{_≡_, subst, sym}
@@ -9,19 +9,19 @@ use Rattle.records.specs.declared.Event.{Event}
 use Rattle.rules.specs.Forms.{forms, no-form}
 pub use Rattle.rules.specs.Forms.{with-kind}
 use Rattle.rules.specs.Effects.{tick, card-in, card-out, card-rule, install-certificate, delete-certificate, mark-valid, mark-invalid, message}
-use Rattle.rules.specs.Effects.{install-executable, delete-executable, verify, give, withdraw, request, effect}
+use Rattle.rules.specs.Effects.{install-executable, delete-executable, verify, give, withdraw, request, replace, effect}
 use Rattle.rules.specs.Demands.{withdrawing}
 use Rattle.rules.proofs.Tests.{and-l, and-r}
 
 -- the effects under one name: with a line `unfolding the-effects` they compute at a known kind, but for power up, which looks at the card
 unfoldable pub the-effects : Unit {0}
 unfolding effect tick card-in card-out card-rule install-certificate delete-certificate mark-valid mark-invalid message
-    install-executable delete-executable verify give withdraw request
+    install-executable delete-executable verify give withdraw request replace
 the-effects = tt
 
 -- ---- of every kind
 
--- what holds of each of the fifteen kinds
+-- what holds of each of the sixteen kinds
 pub record Each (P : ℕ → Type 0) : Type 0 where
   pub clock : P 1
   pub card-in : P 2
@@ -38,6 +38,7 @@ pub record Each (P : ℕ → Type 0) : Type 0 where
   pub give : P 13
   pub withdraw : P 14
   pub request : P 15
+  pub replace : P 16
 
 -- holds of every kind that has a form
 pub by-kind : (P : ℕ → Type 0) → Each P → (k : ℕ) (p : Phone) (e : Event) → T (getD forms k no-form p e) → P k
@@ -58,7 +59,8 @@ by-kind P h (suc (suc (suc (suc (suc (suc (suc (suc (suc (suc (suc (suc zero))))
 by-kind P h (suc (suc (suc (suc (suc (suc (suc (suc (suc (suc (suc (suc (suc zero))))))))))))) p e t = h .give
 by-kind P h (suc (suc (suc (suc (suc (suc (suc (suc (suc (suc (suc (suc (suc (suc zero)))))))))))))) p e t = h .withdraw
 by-kind P h (suc (suc (suc (suc (suc (suc (suc (suc (suc (suc (suc (suc (suc (suc (suc zero))))))))))))))) p e t = h .request
-by-kind P h (suc (suc (suc (suc (suc (suc (suc (suc (suc (suc (suc (suc (suc (suc (suc (suc k)))))))))))))))) p e t = absurd t
+by-kind P h (suc (suc (suc (suc (suc (suc (suc (suc (suc (suc (suc (suc (suc (suc (suc (suc zero)))))))))))))))) p e t = h .replace
+by-kind P h (suc (suc (suc (suc (suc (suc (suc (suc (suc (suc (suc (suc (suc (suc (suc (suc (suc k))))))))))))))))) p e t = absurd t
 
 -- ---- of those that withdraw
 

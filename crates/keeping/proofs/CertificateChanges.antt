@@ -81,7 +81,7 @@ pub keep-delete : (cards : List Card) (t : Trust) (n : ℕ) → n ≢ 0
 keep-delete cards t n nz ok =
     keep-change cards t (has-id n) (λ c. no-certificate) (λ c. inl refl) (λ c e. absurd (omega arith)) (no-number n nz) (λ c m h o. inl refl) ok
 
-pub keep-invalid : (cards : List Card) (t : Trust) (n : ℕ) → n ≢ 0 → ((c : Certificate) → List·Memᴰ c (t .certificates) → c .id ≡ n → c .kind ≢ 1)
+pub keep-invalid : (cards : List Card) (t : Trust) (n : ℕ) → n ≢ 0 → ((c : Certificate) → List·Memᴰ c (t .certificates) → c .id ≡ n → c .kind ≡ 0)
     → Kept cards t → Kept cards (holding (change (has-id n) (marked 0) (t .certificates)) t)
 keep-invalid cards t n nz root ok =
     keep-change cards t (has-id n) (marked 0) (λ c. inr (like-marked 0 c)) (λ c e. absurd (omega arith)) (no-number n nz)
@@ -169,8 +169,8 @@ keep-card-in p k kn ok =
     low : Unmarking f
     low = unmarking-at hit (marked 0) (λ c e. absurd (omega arith))
 
-    root : (c : Certificate) → T (hit c) → c .kind ≢ 1
-    root c t e = let z : c .kind ≡ 0 = search tests in omega arith
+    root : (c : Certificate) → T (hit c) → c .kind ≡ 0
+    root c t = search tests
 
 -- ---- a new certificate
 

@@ -161,7 +161,7 @@ slot-at t g n c h (inl z) =
     at-cases (λ lo hi. Slot lo) t g c (λ x. absurd (n (subst (λ c. T (t c)) z x))) (λ x. inl z)
 slot-at t g n c h (inr o) = at-cases (λ lo hi. Slot lo) t g c (λ x. h x o) (λ x. inr o)
 
-pub marked-fits : (m : ℕ) (c : Certificate) → m ≤ 1 → c .kind ≢ 1 → Occupied c → Occupied (marked m c)
+pub marked-fits : (m : ℕ) (c : Certificate) → m ≤ 1 → c .kind ≡ 0 → Occupied c → Occupied (marked m c)
 marked-fits m c l k o =
     record {
       id = o .id;
@@ -171,7 +171,8 @@ marked-fits m c l k o =
       mark = l;
       enabled = o .enabled;
       root = o .root;
-      issued = λ e. absurd (k e);
+      issued = λ e. absurd (omega arith);
+      recovery = λ e. absurd (omega arith);
     }
 
 pub enabling-fits : (m : ℕ) (c : Certificate) → m ≤ 1 → c .kind ≡ 0 → c .domain ≡ 3 → Occupied c → Occupied (enabling m c)
@@ -185,4 +186,5 @@ enabling-fits m c l k d o =
       enabled = l;
       root = λ e. (o .root e .0, o .root e .1, λ n. absurd (n d));
       issued = λ e. absurd (omega arith);
+      recovery = λ e. absurd (omega arith);
     }

@@ -10,7 +10,8 @@ use Rattle.rules.specs.Words.{all-zero}
 use Rattle.rules.specs.Forms.{forms, no-form, malformed}
 use Rattle.rules.specs.Actors.{may-act, acts-for}
 use Rattle.rules.specs.Codes.{id-unknown, actor-barred, time-back, card-unknown, card-wrong, card-away, id-taken, key-elsewhere}
-use Rattle.rules.specs.Codes.{install-of-other, mark-of-other, no-such-root, another-valid, no-free-slot, never, not-permitted, refusals, code-of}
+use Rattle.rules.specs.Codes.{install-of-other, mark-of-other, no-such-root, another-valid, no-free-slot, never, not-permitted}
+use Rattle.rules.specs.Codes.{cannot-replace, refusals, code-of}
 use Rattle.rules.specs.Effects.{effect, settle, changed}
 use Rattle.rules.proofs.Tests.{and-i, not-intro, neqb→ne, first-in}
 use Rattle.keeping.proofs.After.{after}
@@ -19,7 +20,7 @@ use Rattle.keeping.proofs.Unrefused.{Unrefused, unrefused}
 -- every test of the table under one name: with a line `unfolding the-tests` they compute at a known kind
 unfoldable pub the-tests : Unit {0}
 unfolding id-unknown actor-barred time-back card-unknown card-wrong card-away id-taken key-elsewhere
-    install-of-other mark-of-other no-such-root another-valid no-free-slot never not-permitted may-act acts-for all-zero
+    install-of-other mark-of-other no-such-root another-valid no-free-slot never not-permitted cannot-replace may-act acts-for all-zero
 the-tests = tt
 
 -- an event by one of the five actors to which no refusal applies is done

@@ -172,6 +172,7 @@ module _ (p : Phone) (ok : Executables (length (p .table)) (p .executables)) whe
             let f = action-formed p (with-kind 14 e) (t .formed) in
             executables-permission (length (p .table)) (p .executables) (e .id) (f .0) ok (e .second) 0 (f .1) (omega arith);
         request = λ t. ok;
+        replace = λ t. ok;
       })
       (e .kind) p e (t .formed) t
     where

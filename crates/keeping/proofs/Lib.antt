@@ -5,6 +5,7 @@ pub mod Unrefused
 pub mod Naming
 pub mod CertificateChanges
 pub mod MarkValid
+pub mod RootReplaced
 pub mod Shape
 pub mod CertificatesKept
 pub mod ExecutablesKept

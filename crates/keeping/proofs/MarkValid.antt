@@ -49,9 +49,20 @@ present-by s c (inr z) = search tests
 
 -- ---- the slots after r, of id n, is marked valid
 
+-- what a root keeps that is marked valid, or replaced
+pub record Alike (x r : Certificate) : Type 0 where
+  pub id : x .id ≡ r .id
+  pub place : x .place ≡ r .place
+  pub kind : x .kind ≡ r .kind
+  pub domain : x .domain ≡ r .domain
+  pub owner : x .owner ≡ r .owner
+
+alike : (x r : Certificate) → Like x r → Alike x r
+alike x r k = record { id = k .id; place = k .place; kind = k .kind; domain = k .domain; owner = k .owner }
+
 -- where a valid mark comes from
-data Origin (l : List Certificate) (r x : Certificate) : Type 0 where
-  chosen : Like x r → Origin l r x
+pub data Origin (l : List Certificate) (r x : Certificate) : Type 0 where
+  chosen : Alike x r → Origin l r x
   left : List·Memᴰ x l → x .id ≢ r .id → T (not (on-a-card r && phone-operator-root x)) → Origin l r x
 
 module _ (l : List Certificate) (r : Certificate) (alone : (c : Certificate) → List·Memᴰ c l → c .id ≡ r .id → r ≡ c) where
@@ -63,7 +74,8 @@ module _ (l : List Certificate) (r : Certificate) (alone : (c : Certificate) →
     where
       go : (c : Certificate) → List·Memᴰ c l → (a : Bool) → (T a → T (has-id (r .id) c)) → (T (not a) → T (not (has-id (r .id) c)))
           → (d : Bool) → (T (not d) → T (not (on-a-card r && phone-operator-root c))) → cond a (marked 1 c) (cond d (marked 0 c) c) ≡ x → Origin l r x
-      go c m true h i d k e = chosen (subst (Like x) (sym (alone c m (eqb→eq (c .id) (r .id) (h tt)))) (subst (λ y. Like y c) e (like-marked 1 c)))
+      go c m true h i d k e =
+          chosen (alike x r (subst (Like x) (sym (alone c m (eqb→eq (c .id) (r .id) (h tt)))) (subst (λ y. Like y c) e (like-marked 1 c))))
       go c m false h i true k e = let z : 0 ≡ x .mark = ap (λ y. y .mark) e in absurd (omega arith)
       go c m false h i false k e =
           left (subst (λ y. List·Memᴰ y l) e m) (subst (λ y. y .id ≢ r .id) e (neqb→ne (c .id) (r .id) (i tt)))
@@ -78,7 +90,7 @@ like-after n r c = go (has-id n c) (on-a-card r && phone-operator-root c)
     go false true = like-marked 0 c
     go false false = like-refl c
 
-fits-after : (n : ℕ) (r c : Certificate) → n ≢ 0 → (c .id ≡ n → c .kind ≢ 1) → Slot c → Slot (after-marking n r c)
+fits-after : (n : ℕ) (r c : Certificate) → n ≢ 0 → (c .id ≡ n → c .kind ≡ 0) → Slot c → Slot (after-marking n r c)
 unfolding after-marking
 fits-after n r c nz k o = go (has-id n c) (on-a-card r && phone-operator-root c) (λ h. eqb→eq (c .id) n h) (λ h. search tests) o
   where
@@ -88,15 +100,14 @@ fits-after n r c nz k o = go (has-id n c) (on-a-card r && phone-operator-root c)
     go false true h i (inl z) = inl (ap (marked 0) z)
     go false true h i (inr o) =
         let t : T (phone-operator-root c) = i tt in
-        let y : c .kind ≡ 0 = search tests in
-        inr (marked-fits 0 c (omega arith) (omega arith) o)
+        inr (marked-fits 0 c (omega arith) (search tests) o)
     go false false h i o = o
 
 -- ---- no other stands in the way of r
 
 pub record Clear (cards : List Card) (t : Trust) (r : Certificate) : Type 0 where
   pub id : r .id ≢ 0
-  pub root : r .kind ≢ 1
+  pub root : r .kind ≡ 0
   pub alone : (c : Certificate) → List·Memᴰ c (t .certificates) → c .id ≡ r .id → r ≡ c
   pub no-rival : (x : Certificate) → List·Memᴰ x (t .certificates) → T (rival (t .seen) r x) → ⊥
   pub owner : r .kind ≡ 0 → r .domain ≡ 1 → r .place ≡ 0 → t .seen .card ≢ 0 → r .owner ≡ operator-of cards (t .seen .card)
@@ -110,7 +121,7 @@ From t r x = Origin (t .certificates) r x
 
 module _ (cards : List Card) (t : Trust) (r : Certificate) (clear : Clear cards t r) (ok : Kept cards t) where
   -- the chosen one and another in its place
-  clash : (x y : Certificate) → Like x r → Now 1 t x → List·Memᴰ y (t .certificates) → y .id ≢ r .id → Now 1 t y → x .place ≡ y .place → ⊥
+  clash : (x y : Certificate) → Alike x r → Now 1 t x → List·Memᴰ y (t .certificates) → y .id ≢ r .id → Now 1 t y → x .place ≡ y .place → ⊥
   clash x y a v m i w e =
       let d : r .domain ≡ 1 = sym (a .domain) ∙ valid-domain 1 (t .seen .clock) x v in
       let q : y .place ≡ r .place = sym e ∙ a .place in
@@ -118,20 +129,20 @@ module _ (cards : List Card) (t : Trust) (r : Certificate) (clear : Clear cards 
       (λ h. let z : r .place ≡ 0 = eqb→eq (r .place) 0 h in clear .no-rival y m (rival-here (t .seen) r y i d w z (present-by (t .seen) y (inl (q ∙ z)))))
       (λ h. clear .no-rival y m (rival-there (t .seen) r y i d w (neqb→ne (r .place) 0 h) q))
 
-  each : (x y : Certificate) → Now 1 t x → Now 1 t y → x .place ≡ y .place → From t r x → From t r y → x .id ≡ y .id
+  pub each : (x y : Certificate) → Now 1 t x → Now 1 t y → x .place ≡ y .place → From t r x → From t r y → x .id ≡ y .id
   each x y v w e (chosen a) (chosen b) = cc
   each x y v w e (chosen a) (left m i s) = absurd (clash x y a v m i w e)
   each x y v w e (left m i s) (chosen a) = absurd (clash y x a w m i v (sym e))
   each x y v w e (left m i s) (left n j u) = ok .single .one-each x y m n v w e
 
-  maker : (x y : Certificate) → Now 2 t x → Now 2 t y → From t r x → From t r y → x .id ≡ y .id
+  pub maker : (x y : Certificate) → Now 2 t x → Now 2 t y → From t r x → From t r y → x .id ≡ y .id
   maker x y v w (chosen a) (chosen b) = cc
   maker x y v w (chosen a) (left m i s) = absurd (clear .no-rival y m (rival-maker (t .seen) r y i (sym (a .domain) ∙ valid-domain 2 (t .seen .clock) x v) w))
   maker x y v w (left m i s) (chosen a) = absurd (clear .no-rival x m (rival-maker (t .seen) r x i (sym (a .domain) ∙ valid-domain 2 (t .seen .clock) y w) v))
   maker x y v w (left m i s) (left n j u) = ok .single .one-maker x y m n v w
 
   -- with r on a card, no valid operator root is left on the phone
-  none-left : (x y : Certificate) → Now 1 t x → x .place ≡ 0 → T (not (on-a-card r && phone-operator-root x)) → Like y r → Now 1 t y → y .place ≢ 0 → ⊥
+  none-left : (x y : Certificate) → Now 1 t x → x .place ≡ 0 → T (not (on-a-card r && phone-operator-root x)) → Alike y r → Now 1 t y → y .place ≢ 0 → ⊥
   unfolding on-a-card
   none-left x y v e s a w nz =
       let k : r .kind ≡ 0 = sym (a .kind) ∙ valid-kind 1 (t .seen .clock) y w in
@@ -141,7 +152,7 @@ module _ (cards : List Card) (t : Trust) (r : Certificate) (clear : Clear cards 
       let i = valid-domain 1 (t .seen .clock) x v in
       T-not (phone-operator-root x) (nand (on-a-card r) (phone-operator-root x) s (search tests)) (search tests)
 
-  both : (x y : Certificate) → Now 1 t x → Now 1 t y → x .place ≡ 0 → y .place ≡ t .seen .card → From t r x → From t r y → t .seen .card ≡ 0
+  pub both : (x y : Certificate) → Now 1 t x → Now 1 t y → x .place ≡ 0 → y .place ≡ t .seen .card → From t r x → From t r y → t .seen .card ≡ 0
   both x y v w e g (chosen a) (chosen b) = cc
   both x y v w e g (chosen a) (left m i s) =
       let d : r .domain ≡ 1 = sym (a .domain) ∙ valid-domain 1 (t .seen .clock) x v in
@@ -150,7 +161,7 @@ module _ (cards : List Card) (t : Trust) (r : Certificate) (clear : Clear cards 
       by-test (eqb (t .seen .card) 0) (λ h. eqb→eq (t .seen .card) 0 h) (λ h. absurd (none-left x y v e s a w (λ z. neqb→ne (t .seen .card) 0 h (sym g ∙ z))))
   both x y v w e g (left m i s) (left n j u) = ok .yielding .not-both x y m n v w e g
 
-  mine : (x : Certificate) → Now 1 t x → x .place ≡ 0 → t .seen .card ≢ 0 → From t r x → x .owner ≡ operator-of cards (t .seen .card)
+  pub mine : (x : Certificate) → Now 1 t x → x .place ≡ 0 → t .seen .card ≢ 0 → From t r x → x .owner ≡ operator-of cards (t .seen .card)
   mine x v e z (chosen a) =
       a .owner ∙ clear .owner (sym (a .kind) ∙ valid-kind 1 (t .seen .clock) x v) (sym (a .domain) ∙ valid-domain 1 (t .seen .clock) x v) (sym (a .place) ∙ e) z
   mine x v e z (left m i s) = ok .yielding .mine x m v e z
@@ -160,7 +171,7 @@ module _ (cards : List Card) (t : Trust) (r : Certificate) (clear : Clear cards 
       record {
         card = ok .card;
         held = held-map cards (t .certificates) (ok .held) (after-marking (r .id) r) (λ c. inr (like-after (r .id) r c))
-            (λ c m. fits-after (r .id) r c (clear .id) (λ i. subst (λ x. x .kind ≢ 1) (clear .alone c m i) (clear .root)));
+            (λ c m. fits-after (r .id) r c (clear .id) (λ i. subst (λ x. x .kind ≡ 0) (clear .alone c m i) (clear .root)));
         single = record {
           one-each = λ x y m n v w e. each x y v w e (from 1 x m v) (from 1 y n w);
           one-maker = λ x y m n v w. maker x y v w (from 2 x m v) (from 2 y n w);

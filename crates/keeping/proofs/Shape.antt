@@ -12,7 +12,7 @@ use Rattle.records.specs.declared.Event.{Event}
 use Rattle.rules.specs.Forms.{with-kind, message-form}
 use Rattle.rules.specs.Codes.{code-of}
 use Rattle.rules.specs.Effects.{card-rule, tick, card-in, card-out, power-up, install-certificate, delete-certificate, mark-valid, mark-invalid, message}
-use Rattle.rules.specs.Effects.{install-executable, delete-executable, verify, give, withdraw, request, effects, effect, settle, changed}
+use Rattle.rules.specs.Effects.{install-executable, delete-executable, verify, give, withdraw, request, replace, effects, effect, settle, changed}
 use Rattle.rules.proofs.Tests.{tests}
 use Rattle.rules.proofs.Changes.{length-fill}
 use Rattle.keeping.proofs.ByKind.{the-effects, by-kind}
@@ -109,6 +109,10 @@ shape-request : Shapely request
 unfolding request
 shape-request e p = record { cards = refl; table = refl; certificates = refl; executables = refl }
 
+shape-replace : Shapely replace
+unfolding replace
+shape-replace e p = shape-trust p _ (length-map (p .trust .certificates) _)
+
 all-shapely : All-shapely effects
 all-shapely =
     search (
@@ -127,8 +131,9 @@ all-shapely =
       shape-verify,
       shape-give,
       shape-withdraw,
+      shape-replace,
     )
-    depth 20
+    depth 21
 
 -- ---- and so does an event
 
@@ -191,5 +196,6 @@ mode-changed e p h c =
       give = λ t. h;
       withdraw = λ t. h;
       request = λ t. h;
+      replace = λ t. h;
     })
     (e .kind) p e (unrefused p e c .formed) (unrefused p e c)

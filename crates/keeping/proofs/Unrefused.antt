@@ -2,14 +2,16 @@
 use Prim.Native.Nat.{_<_}
 use mathlib.Core.Bool.{not, _&&_}
 use mathlib.Core.Logic.{_≢_}
+use mathlib.Core.Path.{_≡_}
 use lib.Dec.{T, eqb, leb, ltb→lt}
 use lib.ListN.{getD, length}
 use Rattle.records.specs.Phone.{Phone}
+use Rattle.records.specs.declared.Certificate.{Certificate}
 use Rattle.records.specs.declared.Event.{Event}
-use Rattle.rules.specs.Forms.{forms, no-form, malformed, id-form, action-form}
+use Rattle.rules.specs.Forms.{forms, no-form, malformed, id-form, action-form, replace-form}
 use Rattle.rules.specs.Codes.{refusals, code-of}
 use Rattle.rules.specs.Codes.{id-unknown, actor-barred, time-back, card-unknown, card-wrong, card-away, id-taken, key-elsewhere}
-use Rattle.rules.specs.Codes.{install-of-other, mark-of-other, no-such-root, another-valid, no-free-slot, never, not-permitted}
+use Rattle.rules.specs.Codes.{install-of-other, mark-of-other, no-such-root, another-valid, no-free-slot, never, not-permitted, may-replace, cannot-replace}
 use Rattle.rules.proofs.Tests.{tests, and-r, not-elim, first-out}
 
 -- no refusal applied
@@ -30,6 +32,7 @@ pub record Unrefused (p : Phone) (e : Event) : Type 0 where
   pub room : T (not (no-free-slot p e))
   pub table-open : T (not (never p e))
   pub permitted : T (not (not-permitted p e))
+  pub replaces : T (not (cannot-replace p e))
 
 well-formed : (p : Phone) (e : Event) → T (not (malformed p e)) → T (getD forms (e .kind) no-form p e)
 unfolding malformed
@@ -57,12 +60,40 @@ unrefused p e h =
       room = search w depth 20;
       table-open = search w depth 20;
       permitted = search w depth 20;
+      replaces = search w depth 20;
     }
 
 -- "Where a kind names an id, 0 is out of range."
 pub id-formed : (p : Phone) (e : Event) → T (id-form p e) → e .id ≢ 0
 unfolding id-form
 id-formed p e h = search tests
+
+pub replace-formed : (p : Phone) (e : Event) → T (replace-form p e) → (e .id ≢ 0) × (e .key ≢ 0)
+unfolding replace-form
+replace-formed p e h = (search tests, search tests)
+
+-- what code 17 leaves of the root r, the recovery record s and the event
+pub record Replaceable (e : Event) (r s : Certificate) : Type 0 where
+  pub recovery : s .kind ≡ 2
+  pub recovery-on-phone : s .place ≡ 0
+  pub root-on-phone : r .place ≡ 0
+  pub domain : r .domain ≡ s .domain
+  pub owner : r .owner ≡ s .owner
+  pub event-owner : e .owner ≡ r .owner
+  pub recovery-key : e .verifying ≡ s .key
+
+pub replaceable : (e : Event) (r s : Certificate) → T (may-replace e r s) → Replaceable e r s
+unfolding may-replace
+replaceable e r s h =
+    record {
+      recovery = search tests depth 9;
+      recovery-on-phone = search tests depth 9;
+      root-on-phone = search tests depth 9;
+      domain = search tests depth 9;
+      owner = search tests depth 9;
+      event-owner = search tests depth 9;
+      recovery-key = search tests depth 9;
+    }
 
 pub action-formed : (p : Phone) (e : Event) → T (action-form p e) → (e .id ≢ 0) × (e .second < length (p .table))
 unfolding action-form

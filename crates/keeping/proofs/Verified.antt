@@ -99,7 +99,7 @@ verify-done p n nz k =
     unrefused-done p (verify-event n) tt
     (record {
       formed = search tests;
-      known = nor-i (not (executable-known p n)) false (not-intro (executable-known p n) k) tt;
+      known = nor-i (not (executable-known p n) || false) false (nor-i (not (executable-known p n)) false (not-intro (executable-known p n) k) tt) tt;
       allowed = tt;
       forward = tt;
       in-table = tt;
@@ -114,6 +114,7 @@ verify-done p n nz k =
       room = tt;
       table-open = tt;
       permitted = tt;
+      replaces = tt;
     })
 
 pub verify-effect : (p : Phone) (e : Event) → e .kind ≡ 12 → effect e p ≡ one-verified (e .id) p

@@ -7,10 +7,10 @@ use lib.ListN.{length}
 use Rattle.records.specs.declared.Certificate.{Certificate}
 use Rattle.records.specs.declared.Executable.{Executable}
 use Rattle.rules.specs.Words.{any, first-place}
-use Rattle.rules.specs.Codes.{has-id, is-executable}
+use Rattle.rules.specs.Codes.{has-id, in-another, is-executable}
 use Rattle.lookup.specs.declared.Room.{Room}
 use Rattle.lookup.specs.declared.CertificateRoom.{CertificateRoom}
-use Rattle.lookup.specs.RoomForOne.{in-another, executable-room, certificate-room}
+use Rattle.lookup.specs.RoomForOne.{executable-room, certificate-room}
 use Rattle.rules.proofs.Places.{place-none, place-some}
 
 module _ (id : ℕ) (l : List Executable) where

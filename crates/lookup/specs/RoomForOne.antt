@@ -1,14 +1,13 @@
 -- The room for one more record. Definitions only.
 use Prim.Native.Nat.{ℕ, _+_}
-use mathlib.Core.Bool.{Bool, cond, not, _&&_}
+use mathlib.Core.Bool.{Bool, cond}
 use mathlib.Core.List.{List}
 use mathlib.Core.Path.{_≡_}
-use lib.Dec.{eqb}
 use lib.ListN.{drop}
 use Rattle.records.specs.declared.Certificate.{Certificate}
 use Rattle.records.specs.declared.Executable.{Executable}
 use Rattle.rules.specs.Words.{any, first-place}
-use Rattle.rules.specs.Codes.{has-id, is-executable}
+use Rattle.rules.specs.Codes.{has-id, in-another, is-executable}
 use Rattle.lookup.specs.declared.Room.{Room}
 use Rattle.lookup.specs.declared.CertificateRoom.{CertificateRoom}
 
@@ -21,10 +20,6 @@ unfoldable pub executable-room : ℕ → List Executable → Room
 executable-room id l =
     cond (any (is-executable id) l) Room.Taken
     (cond (any (is-executable 0) l) (Room.Free (first-place (is-executable 0) l)) Room.Full)
-
--- "a certificate of another domain has this key"
-abbrev pub in-another : ℕ → ℕ → Certificate → Bool
-in-another key domain c = eqb (c .key) key && not (eqb (c .domain) domain)
 
 -- "id taken", or that, or the lowest free slot, or none
 unfoldable pub certificate-room : ℕ → ℕ → ℕ → List Certificate → CertificateRoom

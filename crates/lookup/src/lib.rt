@@ -6,13 +6,13 @@ ghost use lib.Dec.{eqb};
 ghost use lib.ListN.{length};
 ghost use mathlib.Core.Bool.{_&&_};
 ghost use mathlib.Core.Path.{_≡_};
-ghost use Rattle.lookup.specs.RoomForOne.{Passed, certificate-room, executable-room, in-another};
+ghost use Rattle.lookup.specs.RoomForOne.{Passed, certificate-room, executable-room};
 ghost use Rattle.lookup.specs.RecordFound.{found};
 ghost use Rattle.records.specs.Frame.{Framed};
 ghost use Rattle.records.specs.Phone.{decode};
-ghost use Rattle.rules.specs.Codes.{has-id, is-executable};
-ghost use Rattle.rules.specs.Words.{first-place};
+ghost use Rattle.rules.specs.Codes.{has-id, in-another, is-executable};
 ghost use Rattle.rules.specs.ImageRules.{has-valid-operator, in-card-table, known-place, operator-of, valid-in};
+ghost use Rattle.rules.specs.Words.{any, first-place};
 
 // A record looked for: the slot where it stands, or nowhere.
 pub enum Found {
@@ -174,6 +174,22 @@ pub fn certificate_room(s: &[u8], id: u16, key: u32, domain: u8) -> CertificateR
         return CertificateRoom::Full;
     }
     CertificateRoom::Free(slot)
+}
+
+// Whether "a certificate of another domain has this key".
+pub fn key_elsewhere(s: &[u8], key: u32, domain: u8) -> bool
+    requires { ⌜ Framed (now s) ⌝ }
+    ensures { λ r. ⌜ r ≡ any (in-another key domain) (decode (now (s .entry)) .trust .certificates) ⌝ }
+{
+    let slots = image::certificate_slots(s);
+    let mut i: usize = 0;
+    while i < slots {
+        if in_another(image::certificate(s, i), key, domain) {
+            return true;
+        }
+        i += 1;
+    }
+    false
 }
 
 pub fn in_card_table(s: &[u8], n: u16) -> bool

@@ -37,8 +37,12 @@ use Rattle.monitor.specs.Told.{answer-size, answer-bytes, answer-from, a
 
 -- ---- every part is a byte, and the offset is two
 
+-- no code is above this one
+abbrev highest-code : ℕ
+highest-code = 17
+
 pub record Small (a : Answer) : Type 0 where
-  pub code : a .code ≤ 16
+  pub code : a .code ≤ highest-code
   pub domain : a .domain ≤ 3
   pub links : a .links ≤ most-links
   pub rule : a .rule ≤ 8
@@ -56,7 +60,7 @@ first-small m ((true ⇒ n) ∷ l) h = leb→le n m (and-l (leb n m) (none-above
 first-small m ((false ⇒ n) ∷ l) h = first-small m l (and-r (leb n m) (none-above m l) h)
 
 -- an answer that is a code alone
-code-small : (c : ℕ) → c ≤ 16 → Small (refused c)
+code-small : (c : ℕ) → c ≤ highest-code → Small (refused c)
 code-small c h = record { code = h; domain = omega arith; links = omega arith; rule = omega arith; offset = omega arith }
 
 fault-small : (l : List ℕ) → Small (refused-at l)
@@ -64,7 +68,7 @@ fault-small l = record { code = omega arith; domain = omega arith; links = omega
 
 refused-small : (l v : List ℕ) → Small (refusal l (code l v))
 unfolding code
-refused-small l v = refusal-cases Small l (code l v) (λ e. fault-small l) (λ n. code-small (code l v) (first-small 16 (rows l v) tt))
+refused-small l v = refusal-cases Small l (code l v) (λ e. fault-small l) (λ n. code-small (code l v) (first-small highest-code (rows l v) tt))
 
 -- what is found is the one that stands for none, or one of the list
 found : {A : Type 0} (P : A → Type 0) (t : A → Bool) (d : A) (l : List A) → P d → ((x : A) → List·Memᴰ x l → P x) → P (find t d l)
@@ -118,7 +122,7 @@ pub unpacked : (a : Answer) → Small a
     × (told-rule (packed a) ≡ a .rule)
     × (told-offset (packed a) ≡ a .offset)
 unpacked a s =
-    let c : a .code ≤ 16 = s .code in
+    let c : a .code ≤ highest-code = s .code in
     let d : a .domain ≤ 3 = s .domain in
     let k : a .links ≤ 4 = s .links in
     let r : a .rule ≤ 8 = s .rule in

@@ -39,7 +39,10 @@ pub const UNHELD: u8 = 3;
 // An executable in domain 0 despite a chain.
 pub const UNTRUSTED: u8 = 4;
 
-// A certificate that is not good: it is on an absent card.
+// A certificate that is not good: it is a recovery key.
+pub const RECOVERY: u8 = 10;
+
+// It is on an absent card.
 pub const ABSENT: u8 = 11;
 
 // It is marked invalid.
@@ -61,6 +64,9 @@ pub fn reason(s: &[u8], c: Certificate) -> u8
     requires { ⌜ Framed (now s) ⌝ }
     ensures { λ r. ⌜ r ≡ reason (decode (now (s .entry)) .trust) c ⌝ }
 {
+    if c.kind == Certificate::RECOVERY {
+        return RECOVERY;
+    }
     if !terms::is_present(s, c) {
         return ABSENT;
     }

@@ -213,6 +213,8 @@ impl Certificate {
 
     pub const ISSUED: u8 = 1;
 
+    pub const RECOVERY: u8 = 2;
+
     // Marks.
     pub const INVALID: u8 = 0;
 
@@ -608,6 +610,8 @@ impl Event {
     pub const WITHDRAW: u8 = 14;
 
     pub const REQUEST: u8 = 15;
+
+    pub const REPLACE: u8 = 16;
 
     // Actors.
     pub const DEVICE: u8 = 0;

@@ -18,12 +18,13 @@ use Rattle.rules.specs.ImageRules.{known-place, operator-of, valid-in, r
 pub record Occupied (c : Certificate) : Type 0 where
   pub id : c .id ≢ 0
   pub key : c .key ≢ 0
-  pub kind : c .kind ≤ 1
+  pub kind : c .kind ≤ 2
   pub domain : (1 ≤ c .domain) × (c .domain ≤ 3)
   pub mark : c .mark ≤ 1
   pub enabled : c .enabled ≤ 1
   pub root : c .kind ≡ 0 → (c .verifying ≡ 0) × (c .domain ≡ 2 → c .place ≡ 0) × (c .domain ≢ 3 → c .enabled ≡ 1)
   pub issued : c .kind ≡ 1 → (c .verifying ≢ 0) × (c .mark ≡ 1) × (c .enabled ≡ 1)
+  pub recovery : c .kind ≡ 2 → (c .place ≡ 0) × (c .domain ≤ 2) × (c .verifying ≡ 0) × (c .mark ≡ 0) × (c .enabled ≡ 1)
 
 -- I2 to I4, of the certificate slots
 pub record Held (cards : List Card) (l : List Certificate) : Type 0 where

@@ -10,7 +10,7 @@ use Rattle.records.specs.declared.Certificate.{Certificate}
 use Rattle.records.specs.declared.Card.{Card}
 use Rattle.records.specs.declared.Executable.{Executable}
 use Rattle.rules.specs.Words.{_implies_, all-zero}
-use Rattle.rules.specs.ImageRules.{free-certificate, free-executable, zero-certificate, certificate-ranges, root-fits, issued-fits}
+use Rattle.rules.specs.ImageRules.{free-certificate, free-executable, zero-certificate, certificate-ranges, root-fits, issued-fits, recovery-fits}
 use Rattle.rules.specs.ImageRules.{certificate-fits, zero-executable, executable-fits}
 use Rattle.rules.specs.ImageRules.{slot-fits, card-fits, executable-slot-fits}
 use Rattle.rules.proofs.Tests.{tests, eq→eqb, neqb→ne, ne→neqb, and-i, or-i, or-cases, by-test, cond-no, yes-cond, no-cond, implies-out, implies-in}
@@ -73,24 +73,51 @@ issued-in : (c : Certificate) → (c .verifying ≢ 0) × (c .mark ≡ 1) × (c 
 unfolding issued-fits
 issued-in c o = search tests
 
+recovery-out : (c : Certificate) → T (recovery-fits c)
+    → (c .place ≡ 0) × (c .domain ≤ 2) × (c .verifying ≡ 0) × (c .mark ≡ 0) × (c .enabled ≡ 1)
+unfolding recovery-fits
+recovery-out c h = (search tests depth 7, search ranges depth 7, search tests depth 7, search tests depth 7, search tests depth 7)
+
+recovery-in : (c : Certificate) → (c .place ≡ 0) × (c .domain ≤ 2) × (c .verifying ≡ 0) × (c .mark ≡ 0) × (c .enabled ≡ 1)
+    → T (recovery-fits c)
+unfolding recovery-fits
+recovery-in c o = search (and-i, eq→eqb, le→leb, o .0, o .1, o .2, o .3, o .4) depth 10
+
+ranges-out : (c : Certificate) → T (certificate-ranges c)
+    → (c .id ≢ 0) × (c .key ≢ 0) × (c .kind ≤ 2) × ((1 ≤ c .domain) × (c .domain ≤ 3)) × (c .mark ≤ 1) × (c .enabled ≤ 1)
+unfolding certificate-ranges
+ranges-out c h = (
+  search tests depth 9,
+  search tests depth 9,
+  search ranges depth 9,
+  (search ranges depth 9, search ranges depth 9),
+  search ranges depth 9,
+  search ranges depth 9,
+)
+
 pub occupied-out : (c : Certificate) → T (certificate-fits c) → Occupied c
-unfolding certificate-fits certificate-ranges
-occupied-out c h = record {
-  id = search tests depth 9;
-  key = search tests depth 9;
-  kind = search ranges depth 9;
-  domain = (search ranges depth 9, search ranges depth 9);
-  mark = search ranges depth 9;
-  enabled = search ranges depth 9;
-  root = λ e. root-out c (implies-out (eqb (c .kind) 0) (root-fits c) (search tests) (eq→eqb (c .kind) 0 e));
-  issued = λ e. issued-out c (implies-out (eqb (c .kind) 1) (issued-fits c) (search tests) (eq→eqb (c .kind) 1 e));
-}
+unfolding certificate-fits
+occupied-out c h =
+    let r = ranges-out c (search tests) in
+    record {
+      id = r .0;
+      key = r .1;
+      kind = r .2;
+      domain = r .3;
+      mark = r .4;
+      enabled = r .5;
+      root = λ e. root-out c (implies-out (eqb (c .kind) 0) (root-fits c) (search tests) (eq→eqb (c .kind) 0 e));
+      issued = λ e. issued-out c (implies-out (eqb (c .kind) 1) (issued-fits c) (search tests) (eq→eqb (c .kind) 1 e));
+      recovery = λ e. recovery-out c (implies-out (eqb (c .kind) 2) (recovery-fits c) (search tests) (eq→eqb (c .kind) 2 e));
+    }
 
 occupied-in : (c : Certificate) → Occupied c → T (certificate-fits c)
 unfolding certificate-fits certificate-ranges
 occupied-in c o =
     let a : T (eqb (c .kind) 0 implies root-fits c) = implies-in (eqb (c .kind) 0) (root-fits c) (λ t. root-in c (o .root (eqb→eq (c .kind) 0 t))) in
     let b : T (eqb (c .kind) 1 implies issued-fits c) = implies-in (eqb (c .kind) 1) (issued-fits c) (λ t. issued-in c (o .issued (eqb→eq (c .kind) 1 t))) in
+    let d : T (eqb (c .kind) 2 implies recovery-fits c) =
+    implies-in (eqb (c .kind) 2) (recovery-fits c) (λ t. recovery-in c (o .recovery (eqb→eq (c .kind) 2 t))) in
     let r : T (certificate-ranges c) = search (and-i, ne→neqb, le→leb, o .id, o .key, o .kind, o .domain .0, o .domain .1, o .mark, o .enabled) depth 12 in
     search and-i
 

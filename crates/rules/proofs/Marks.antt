@@ -14,10 +14,11 @@ use Rattle.records.specs.declared.Event.{Event}
 use Rattle.rules.specs.Words.{at, change}
 use Rattle.rules.specs.ImageRules.{free-certificate, third-party-root}
 use Rattle.rules.specs.Forms.{new-certificate}
-use Rattle.rules.specs.Codes.{has-id, certificate-named}
+use Rattle.rules.specs.Codes.{has-id, makes-valid, certificate-named}
 use Rattle.rules.specs.Effects.{phone-operator-root, retired, card-rule, tick, card-in, card-out, power-up, install-certificate}
 use Rattle.rules.specs.Effects.{delete-certificate, on-a-card, after-marking, mark-valid, mark-invalid, enabled-by, message}
-use Rattle.rules.specs.Effects.{install-executable, delete-executable, verify, give, withdraw, request, effects, effect, settle, changed}
+use Rattle.rules.specs.Effects.{install-executable, delete-executable, verify, give, withdraw, request, replaced, replace}
+use Rattle.rules.specs.Effects.{effects, effect, settle, changed}
 use Rattle.rules.proofs.Tests.{by-test}
 use Rattle.rules.proofs.Accepts.{T-true}
 use Rattle.rules.proofs.Changes.{at-cases, map-at, change-at, fill-at}
@@ -40,9 +41,9 @@ card-rule-marks p =
 
 -- ---- every effect
 
--- what a slot c that is valid after the event e was before it: valid, or named by "mark valid", or free and filled by an install
+-- what a slot c that is valid after the event e was before it: valid, or named by "mark valid" or "replace", or free and filled by an install
 abbrev pub Marked-by : Event → Certificate → Type 0
-Marked-by e c = (c .mark ≡ 1) ⊎ ((e .kind ≡ 7) × (c .id ≡ e .id)) ⊎ ((e .kind ≡ 5) × (c .id ≡ 0))
+Marked-by e c = (c .mark ≡ 1) ⊎ (T (makes-valid (e .kind)) × (c .id ≡ e .id)) ⊎ ((e .kind ≡ 5) × (c .id ≡ 0))
 
 -- a slot c that becomes d
 abbrev Becomes : Event → Certificate → Certificate → Type 0
@@ -107,7 +108,7 @@ by-mark-valid e k p =
     swept c = on-a-card (certificate-named p (e .id)) && phone-operator-root c
 
     go : (c : Certificate) (b : Bool) → (T b → c .id ≡ e .id) → Becomes e c (cond b (marked 1 c) (at swept (marked 0) c))
-    go c true n h = inr (inl (k, n tt))
+    go c true n h = inr (inl (rw k tt, n tt))
     go c false n h = at-cases (λ lo hi. Becomes e hi lo) swept (marked 0) c (λ t z. inl (omega arith)) (λ t z. inl z) h
 
 by-mark-invalid : Marks 8 mark-invalid
@@ -118,6 +119,10 @@ by-message : Marks 9 message
 unfolding message
 by-message e k p = changes e p third-party-root (λ c. enabling (enabled-by e c) c) (λ c t h. inl h)
 
+by-replace : Marks 16 replace
+unfolding replace
+by-replace e k p = changes e p (has-id (e .id)) (replaced e) (λ c t h. inr (inl (rw k tt, eqb→eq (c .id) (e .id) t)))
+
 -- the kinds that leave the certificates alone
 by-none : (k : ℕ) → Marks k request
 unfolding request
@@ -125,7 +130,7 @@ by-none k e n p i h = inl h
 
 all-marks : Each Marks effects
 unfolding tick card-out install-executable delete-executable verify give withdraw request
-all-marks = search (by-none, by-card-in, by-power-up, by-install, by-delete, by-mark-valid, by-mark-invalid, by-message) depth 20
+all-marks = search (by-none, by-card-in, by-power-up, by-install, by-delete, by-mark-valid, by-mark-invalid, by-message, by-replace) depth 21
 
 -- ---- and so an event
 

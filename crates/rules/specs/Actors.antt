@@ -1,6 +1,6 @@
 -- 01, "Who may act is one fixed table over event kind and domain". Definitions only.
 use Prim.Native.Nat.{ℕ}
-use mathlib.Core.Bool.{Bool, true, _&&_, _||_}
+use mathlib.Core.Bool.{Bool, true, false, _&&_, _||_}
 use lib.Dec.{eqb}
 use Rattle.records.specs.declared.Certificate.{Certificate}
 use Rattle.records.specs.declared.Event.{Event}
@@ -20,6 +20,7 @@ may-act k d a =
     || (eqb k 5 && by-domain d a (between 1 4 a))
     || (eqb k 6 && by-domain d a (eqb a 1 || eqb a 4))
     || (between 7 8 k && by-domain d a (eqb a 4))
+    || (eqb k 16 && by-domain d a false)
 
 -- an actor that is somebody in particular: nobody is yet
 unfoldable pub acts-for : Event → Certificate → Bool

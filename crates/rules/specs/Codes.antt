@@ -37,23 +37,39 @@ certificate-known p n = any (has-id n) (p .trust .certificates)
 unfoldable pub executable-known : Phone → ℕ → Bool
 executable-known p n = any (is-executable n) (p .executables)
 
--- the certificate that kinds 5–8 are about: the one to install, or the one named
+-- the kinds whose id is a certificate's: 6–8, and 16, "id = root"
+abbrev pub names-certificate : ℕ → Bool
+names-certificate k = between 6 8 k || eqb k 16
+
+-- mark valid, and what is refused "as for mark valid": replace, by which a root "is marked valid" too
+abbrev pub makes-valid : ℕ → Bool
+makes-valid k = eqb k 7 || eqb k 16
+
+-- the certificate that kinds 5–8 and 16 are about: the one to install, or the one named
 unfoldable pub subject : Phone → Event → Certificate
 subject p e =
-    cond (eqb (e .kind) 5) (new-certificate (p .mode) e) (cond (between 6 8 (e .kind)) (certificate-named p (e .id)) no-certificate)
+    cond (eqb (e .kind) 5) (new-certificate (p .mode) e)
+    (cond (names-certificate (e .kind)) (certificate-named p (e .id)) no-certificate)
+
+-- kind 16: "second = recovery record"
+unfoldable pub recovery-named : Phone → Event → Certificate
+recovery-named p e = certificate-named p (e .second)
 
 -- ---- a test for each code; where a record is missing, code 3 stands before
 
--- 3: "kinds 6–8, 11–15: id unknown; kind 9: a listed id unknown"
+-- 3: "kinds 6–8, 11–15: id unknown; kind 9: a listed id unknown"; of 16 "either id"
 unfoldable pub id-unknown : Phone → Event → Bool
 id-unknown p e =
-    (between 6 8 (e .kind) && not (certificate-known p (e .id)))
+    (names-certificate (e .kind) && not (certificate-known p (e .id)))
     || (between 11 15 (e .kind) && not (executable-known p (e .id)))
     || (eqb (e .kind) 9 && any (λ n. not (certificate-known p n)) (listed e))
+    || (eqb (e .kind) 16 && not (certificate-known p (e .second)))
 
--- 4: "actor not allowed"
+-- 4: "actor not allowed"; 16 is allowed "to nobody where either record is a third party one"
 unfoldable pub actor-barred : Phone → Event → Bool
-actor-barred p e = not (may-act (e .kind) (subject p e .domain) (e .actor) && acts-for e (subject p e))
+actor-barred p e =
+    not (may-act (e .kind) (subject p e .domain) (e .actor) && acts-for e (subject p e))
+    || (eqb (e .kind) 16 && eqb (recovery-named p e .domain) 3)
 
 -- 5: "new time below the clock (equal is done)"
 unfoldable pub time-back : Phone → Event → Bool
@@ -69,19 +85,23 @@ unfoldable pub card-wrong : Phone → Event → Bool
 card-wrong p e =
     (eqb (e .kind) 2 && not (eqb (p .trust .seen .card) 0)) || (eqb (e .kind) 3 && eqb (p .trust .seen .card) 0)
 
--- 8: "install, delete or mark on a card not present"
+-- 8: "install, delete or mark on a card not present", and of 16 a root there
 unfoldable pub card-away : Phone → Event → Bool
-card-away p e = between 5 8 (e .kind) && not (present (p .trust .seen) (subject p e))
+card-away p e = (eqb (e .kind) 5 || names-certificate (e .kind)) && not (present (p .trust .seen) (subject p e))
 
 -- 9: "install: id taken in the same table"
 unfoldable pub id-taken : Phone → Event → Bool
 id-taken p e =
     (eqb (e .kind) 5 && certificate-known p (e .id)) || (eqb (e .kind) 10 && executable-known p (e .id))
 
--- 10: "install certificate: a certificate of another domain has this key"
+-- "a certificate of another domain has this key"
+abbrev pub in-another : ℕ → ℕ → Certificate → Bool
+in-another key domain c = eqb (c .key) key && not (eqb (c .domain) domain)
+
+-- 10: that, of install certificate and of replace
 unfoldable pub key-elsewhere : Phone → Event → Bool
 key-elsewhere p e =
-    eqb (e .kind) 5 && any (λ c. eqb (c .key) (e .key) && not (eqb (c .domain) (e .fourth))) (p .trust .certificates)
+    (eqb (e .kind) 5 || eqb (e .kind) 16) && any (in-another (e .key) (subject p e .domain)) (p .trust .certificates)
 
 -- 11: "install of an operator root on a card of another operator"
 unfoldable pub install-of-other : Phone → Event → Bool
@@ -91,19 +111,19 @@ install-of-other p e =
     && not (eqb (e .second) 0)
     && not (eqb (e .owner) (operator-of (p .cards) (e .second)))
 
--- 11: "mark valid of one on the phone while a card of another operator is present"
+-- 11: "mark valid of one on the phone while a card of another operator is present"; of 16 "by the owner that the root has before"
 unfoldable pub mark-of-other : Phone → Event → Bool
 mark-of-other p e =
-    eqb (e .kind) 7
+    makes-valid (e .kind)
     && operator-root (subject p e)
     && eqb (subject p e .place) 0
     && not (eqb (p .trust .seen .card) 0)
     && not (eqb (subject p e .owner) (operator-of (p .cards) (p .trust .seen .card)))
 
--- 12: "marking an issued record; message lists one that is no third party root"
+-- 12: "marking an issued record", "marking a recovery record too", of 16 "id is no root"; "message lists one that is no third party root"
 unfoldable pub no-such-root : Phone → Event → Bool
 no-such-root p e =
-    (between 7 8 (e .kind) && eqb (subject p e .kind) 1)
+    ((makes-valid (e .kind) || eqb (e .kind) 8) && not (eqb (subject p e .kind) 0))
     || (eqb (e .kind) 9 && any (λ n. not (third-party-root (certificate-named p n))) (listed e))
 
 -- 13: "while another is valid: manufacturer, any other; operator root on the phone, any other present; on a card, another on that card"
@@ -116,7 +136,7 @@ rival s c x =
 
 -- 13: "mark valid"
 unfoldable pub another-valid : Phone → Event → Bool
-another-valid p e = eqb (e .kind) 7 && any (rival (p .trust .seen) (subject p e)) (p .trust .certificates)
+another-valid p e = makes-valid (e .kind) && any (rival (p .trust .seen) (subject p e)) (p .trust .certificates)
 
 -- 14: "install: no free slot"
 unfoldable pub no-free-slot : Phone → Event → Bool
@@ -141,6 +161,23 @@ unfoldable pub not-permitted : Phone → Event → Bool
 not-permitted p e =
     eqb (e .kind) 15 && eqb (table-byte p e) 1 && not (has-permission (executable-named p (e .id)) (e .second))
 
+-- event e may replace root r by recovery record s: s is one, both are on the phone, of one domain and one owner, which the event names, and the
+-- event's verifying key is the recovery key
+unfoldable pub may-replace : Event → Certificate → Certificate → Bool
+may-replace e r s =
+    eqb (s .kind) 2
+    && eqb (s .place) 0
+    && eqb (r .place) 0
+    && eqb (r .domain) (s .domain)
+    && eqb (r .owner) (s .owner)
+    && eqb (e .owner) (r .owner)
+    && eqb (e .verifying) (s .key)
+
+-- 17: "second is no recovery record, either record is not on the phone, domains or owners (the event's included) differ, or the verifying key is
+-- not the recovery key"
+unfoldable pub cannot-replace : Phone → Event → Bool
+cannot-replace p e = eqb (e .kind) 16 && not (may-replace e (subject p e) (recovery-named p e))
+
 -- ---- "The lowest that applies is given."
 
 -- for an event of the right length on an accepted image
@@ -162,6 +199,7 @@ refusals p e =
     ∷ (no-free-slot p e ⇒ 14)
     ∷ (never p e ⇒ 15)
     ∷ (not-permitted p e ⇒ 16)
+    ∷ (cannot-replace p e ⇒ 17)
     ∷ []
 
 unfoldable pub code-of : Phone → Event → ℕ

@@ -38,7 +38,8 @@ cases =
     ∷ wrong (damaged 8 (0 ∷ 0 ∷ [])) 1 (Site.Header 8) 8
     ∷ wrong (damaged 14 (0 ∷ 1 ∷ [])) 1 (Site.Header 14) 14
     ∷ wrong (damaged 24 (0 ∷ 0 ∷ 0 ∷ 137 ∷ [])) 1 (Site.Header 24) 24
-    -- a certificate's kind is 2
+    -- a certificate's kind is 3; it is 2, and the record is marked valid and has a verifying key
+    ∷ wrong (damaged 68 (3 ∷ [])) 2 (Site.Certificate 1) 64
     ∷ wrong (damaged 68 (2 ∷ [])) 2 (Site.Certificate 1) 64
     -- a card present that is not in the table, a place that is not, a number that stands twice, and a card's blank
     ∷ wrong (damaged 12 (0 ∷ 3 ∷ [])) 3 (Site.Header 12) 12

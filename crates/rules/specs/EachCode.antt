@@ -1,5 +1,5 @@
--- 01, "What an event is told": for each part of each row from code 2 on, an event that just gets the code beside one that just does not, computed from
--- its bytes. Assumes nothing.
+-- 01, "What an event is told", and 02, item 4: for each part of each row from code 2 on, an event that just gets the code beside one that just does
+-- not, computed from its bytes. Assumes nothing.
 use Prim.Native.Nat.{ℕ}
 use mathlib.Core.List.{List, [], _∷_, _++_, map}
 use mathlib.Core.Path.{_≡_, refl}
@@ -7,7 +7,7 @@ use Rattle.octets.specs.Octets.{bytes}
 use Rattle.rules.specs.Step.{step, run}
 use Rattle.rules.specs.Computing.{computing}
 
--- ---- two phones at clock 100 with a given card present: each has a free certificate slot, and cards 1 and 2 of operators 5 and 6
+-- ---- three phones at clock 100 with a given card present: each has a free certificate slot, and cards 1 and 2 of operators 5 and 6
 
 -- third party root 7, and 8 issued by it; executable e, unsigned, and f, a third party's, signed by 7's key; a free slot; without a domain action 0 needs
 -- the user's permission, and action 1 is never granted
@@ -44,6 +44,27 @@ roots card =
     ++ bytes 8 0x0002_0000_00000006
     ++ bytes 4 0x00_02_02_02
 
+-- operator root 1, valid, with recovery record 2 beside it, on the phone, and 3 on card 1, all of operator 5; manufacturer root 4, valid, with 5 beside
+-- it; third party root 6; 7, issued by 1; operator root 8 of operator 6, and manufacturer root 9, without a mark; a free slot
+abbrev keys : ℕ → List ℕ
+keys card =
+    bytes 12 0x0001_000a_0002_0000_0001_0001
+    ++ bytes 2 card
+    ++ bytes 26 0x0000_00000064_00000028_00000118_00000128_00000128_0000012c
+    ++ bytes 24 0x0001_0000_00_01_01_01_000000a1_00000000_00000005_00000000
+    ++ bytes 24 0x0002_0000_02_01_00_01_000000a2_00000000_00000005_00000000
+    ++ bytes 24 0x0003_0001_00_01_00_01_000000a3_00000000_00000005_00000000
+    ++ bytes 24 0x0004_0000_00_02_01_01_000000b4_00000000_00000005_00000000
+    ++ bytes 24 0x0005_0000_02_02_00_01_000000b5_00000000_00000005_00000000
+    ++ bytes 24 0x0006_0000_00_03_01_01_000000c6_00000000_00000000_00000000
+    ++ bytes 24 0x0007_0000_01_01_01_01_000000a7_000000a1_00000005_000000c8
+    ++ bytes 24 0x0008_0000_00_01_00_01_000000a8_00000000_00000006_00000000
+    ++ bytes 24 0x0009_0000_00_02_00_01_000000b9_00000000_00000005_00000000
+    ++ bytes 24 0
+    ++ bytes 8 0x0001_0000_00000005
+    ++ bytes 8 0x0002_0000_00000006
+    ++ bytes 4 0x00_02_02_02
+
 -- no card present, and card 1
 abbrev pub apps-away : List ℕ
 apps-away = apps 0
@@ -56,6 +77,12 @@ roots-away = roots 0
 
 abbrev pub roots-here : List ℕ
 roots-here = roots 1
+
+abbrev pub keys-away : List ℕ
+keys-away = keys 0
+
+abbrev pub keys-here : List ℕ
+keys-here = keys 1
 
 -- ---- events: kind, actor, id, second, third, fourth, key, verifying key, owner, expiry
 abbrev clock-100 : List ℕ
@@ -82,6 +109,12 @@ mark-1-valid = bytes 24 0x07_02_0001_0000_00_00_00000000_00000000_00000000_00000
 abbrev mark-2-valid : List ℕ
 mark-2-valid = bytes 24 0x07_02_0002_0000_00_00_00000000_00000000_00000000_00000000
 
+abbrev mark-1-invalid : List ℕ
+mark-1-invalid = bytes 24 0x08_02_0001_0000_00_00_00000000_00000000_00000000_00000000
+
+abbrev mark-3-valid : List ℕ
+mark-3-valid = bytes 24 0x07_02_0003_0000_00_00_00000000_00000000_00000000_00000000
+
 abbrev mark-3-invalid : List ℕ
 mark-3-invalid = bytes 24 0x08_02_0003_0000_00_00_00000000_00000000_00000000_00000000
 
@@ -105,6 +138,12 @@ request-e-0 = bytes 24 0x0f_00_000e_0000_00_00_00000000_00000000_00000000_000000
 
 abbrev request-e-1 : List ℕ
 request-e-1 = bytes 24 0x0f_00_000e_0001_00_00_00000000_00000000_00000000_00000000
+
+abbrev replace-1 : List ℕ
+replace-1 = bytes 24 0x10_02_0001_0002_00_00_000000a9_000000a2_00000005_00000000
+
+abbrev replace-8 : List ℕ
+replace-8 = bytes 24 0x10_02_0008_0002_00_00_000000a9_000000a2_00000006_00000000
 
 -- ---- the examples
 
@@ -133,9 +172,8 @@ examples =
     -- 2: "event not 24 bytes": 23, 25
     by-event apps-away 2 [] (bytes 23 0x01_00_0000_0000_00_00_00000064_00000000_00000000_000000) clock-100
     ∷ by-event apps-away 2 [] (bytes 25 0x01_00_0000_0000_00_00_00000064_00000000_00000000_00000000_00) clock-100
-    -- 2: "kind not 1..15": 0, 16
+    -- 2: "kind not 1..16": 0; 17 is below, beside 16
     ∷ by-field apps-away 2 0x00_00_0000_0000_00_00_00000064_00000000_00000000_00000000 0x01_00_0000_0000_00_00_00000064_00000000_00000000_00000000
-    ∷ by-field apps-away 2 0x10_00_000f_0001_00_00_00000000_00000000_00000000_00000000 0x0f_00_000f_0001_00_00_00000000_00000000_00000000_00000000
     -- 2: "actor above 4"
     ∷ by-field apps-away 2 0x0a_05_0009_0000_00_00_000000c7_00000000_00000000_00000000 0x0a_04_0009_0000_00_00_000000c7_00000000_00000000_00000000
     -- 2: "unused field not 0": one in each kind, 5 has none; a message's id, its second and its list
@@ -169,7 +207,7 @@ examples =
     -- 2: card in: "second = card, not 0"
     ∷ by-field apps-away 2 0x02_00_0000_0000_00_00_00000000_00000000_00000000_00000000 0x02_00_0000_0001_00_00_00000000_00000000_00000000_00000000
     -- 2: install certificate, "ranges as I2": kind, domain below and above, key, a root's verifying key, an issued one's, a manufacturer root's place
-    ∷ by-field apps-away 2 0x05_01_0009_0000_02_03_000000c9_000000c7_00000000_00000000 0x05_01_0009_0000_01_03_000000c9_000000c7_00000000_00000000
+    ∷ by-field apps-away 2 0x05_01_0009_0000_03_03_000000c9_000000c7_00000000_00000000 0x05_01_0009_0000_01_03_000000c9_000000c7_00000000_00000000
     ∷ by-field apps-away 2 0x05_02_0009_0000_00_00_000000a9_00000000_00000000_00000000 0x05_02_0009_0000_00_01_000000a9_00000000_00000000_00000000
     ∷ by-field apps-away 2 0x05_01_0009_0000_00_04_000000c9_00000000_00000000_00000000 0x05_01_0009_0000_00_03_000000c9_00000000_00000000_00000000
     ∷ by-field apps-away 2 0x05_01_0009_0000_00_03_00000000_00000000_00000000_00000000 0x05_01_0009_0000_00_03_000000c9_00000000_00000000_00000000
@@ -277,6 +315,53 @@ examples =
     -- 16: "request: table byte 1 and no permission": none at all, and one of another action
     ∷ by-state apps-away 16 [] (give-e-0 ∷ []) 0x0f_00_000e_0000_00_00_00000000_00000000_00000000_00000000
     ∷ by-state apps-away 16 (give-e-1 ∷ []) (give-e-0 ∷ []) 0x0f_00_000e_0000_00_00_00000000_00000000_00000000_00000000
+    -- ---- 02, item 4
+    -- 2: "event kinds to 16": beside 17; "key 0 in event 16"; an id that is 0, and a field that is not used
+    ∷ by-field keys-away 2 0x11_02_0001_0002_00_00_000000a9_000000a2_00000005_00000000 0x10_02_0001_0002_00_00_000000a9_000000a2_00000005_00000000
+    ∷ by-field keys-away 2 0x10_02_0001_0002_00_00_00000000_000000a2_00000005_00000000 0x10_02_0001_0002_00_00_000000a9_000000a2_00000005_00000000
+    ∷ by-field keys-away 2 0x10_02_0000_0002_00_00_000000a9_000000a2_00000005_00000000 0x10_02_0001_0002_00_00_000000a9_000000a2_00000005_00000000
+    ∷ by-field keys-away 2 0x10_02_0001_0000_00_00_000000a9_000000a2_00000005_00000000 0x10_02_0001_0002_00_00_000000a9_000000a2_00000005_00000000
+    ∷ by-field keys-away 2 0x10_02_0001_0002_01_00_000000a9_000000a2_00000005_00000000 0x10_02_0001_0002_00_00_000000a9_000000a2_00000005_00000000
+    ∷ by-field keys-away 2 0x10_02_0001_0002_00_01_000000a9_000000a2_00000005_00000000 0x10_02_0001_0002_00_00_000000a9_000000a2_00000005_00000000
+    -- 2: "certificate kinds to 2", and of a recovery record "phone only, domain 1 or 2, verifying key 0"
+    ∷ by-field keys-away 2 0x05_02_000a_0000_03_01_000000aa_00000000_00000005_00000000 0x05_02_000a_0000_02_01_000000aa_00000000_00000005_00000000
+    ∷ by-field keys-here 2 0x05_02_000a_0001_02_01_000000aa_00000000_00000005_00000000 0x05_02_000a_0000_02_01_000000aa_00000000_00000005_00000000
+    ∷ by-field keys-away 2 0x05_01_000a_0000_02_03_000000aa_00000000_00000005_00000000 0x05_03_000a_0000_02_02_000000ba_00000000_00000005_00000000
+    ∷ by-field keys-away 2 0x05_02_000a_0000_02_01_000000aa_000000a1_00000005_00000000 0x05_02_000a_0000_02_01_000000aa_00000000_00000005_00000000
+    -- 3: "either id"
+    ∷ by-field keys-away 3 0x10_02_000b_0002_00_00_000000a9_000000a2_00000005_00000000 0x10_02_0001_0002_00_00_000000a9_000000a2_00000005_00000000
+    ∷ by-field keys-away 3 0x10_02_0001_000b_00_00_000000a9_000000a2_00000005_00000000 0x10_02_0001_0002_00_00_000000a9_000000a2_00000005_00000000
+    -- 4: "installed and deleted by that domain's actor"; "allowed to the actor of the domain of id's record, and to nobody where either record is a third
+    -- party one"
+    ∷ by-field keys-away 4 0x05_03_000a_0000_02_01_000000aa_00000000_00000005_00000000 0x05_02_000a_0000_02_01_000000aa_00000000_00000005_00000000
+    ∷ by-field keys-away 4 0x06_04_0002_0000_00_00_00000000_00000000_00000000_00000000 0x06_02_0002_0000_00_00_00000000_00000000_00000000_00000000
+    ∷ by-field keys-away 4 0x10_03_0001_0002_00_00_000000a9_000000a2_00000005_00000000 0x10_02_0001_0002_00_00_000000a9_000000a2_00000005_00000000
+    ∷ by-field keys-away 4 0x10_04_0006_0002_00_00_000000a9_000000a2_00000005_00000000 0x10_02_0001_0002_00_00_000000a9_000000a2_00000005_00000000
+    ∷ by-field keys-away 4 0x10_02_0001_0006_00_00_000000a9_000000a2_00000005_00000000 0x10_02_0001_0002_00_00_000000a9_000000a2_00000005_00000000
+    -- 8: by id's record
+    ∷ by-field keys-away 8 0x10_02_0003_0002_00_00_000000a9_000000a2_00000005_00000000 0x10_02_0001_0002_00_00_000000a9_000000a2_00000005_00000000
+    -- 10: a key of another domain; beside it one of the same
+    ∷ by-field keys-away 10 0x10_02_0001_0002_00_00_000000b4_000000a2_00000005_00000000 0x10_02_0001_0002_00_00_000000a8_000000a2_00000005_00000000
+    -- 11: "by the owner that the root has before": a card of another operator, and one of its own
+    ∷ by-state keys-away 11 (card-2-in ∷ []) (card-1-in ∷ []) 0x10_02_0001_0002_00_00_000000a9_000000a2_00000005_00000000
+    -- 12: "id is no root": an issued record, a recovery record; "marking a recovery record too"; a message that lists one
+    ∷ by-field keys-away 12 0x10_02_0007_0002_00_00_000000a9_000000a2_00000005_00000000 0x10_02_0001_0002_00_00_000000a9_000000a2_00000005_00000000
+    ∷ by-field keys-away 12 0x10_02_0002_0002_00_00_000000a9_000000a2_00000005_00000000 0x10_02_0001_0002_00_00_000000a9_000000a2_00000005_00000000
+    ∷ by-field keys-away 12 0x07_02_0002_0000_00_00_00000000_00000000_00000000_00000000 0x07_02_0001_0000_00_00_00000000_00000000_00000000_00000000
+    ∷ by-field keys-away 12 0x08_02_0002_0000_00_00_00000000_00000000_00000000_00000000 0x08_02_0001_0000_00_00_00000000_00000000_00000000_00000000
+    ∷ by-field keys-away 12 0x09_04_0000_0000_02_01_00020000_00000000_00000000_00000000 0x09_04_0000_0000_02_01_00060000_00000000_00000000_00000000
+    -- 13: as for mark valid: another manufacturer root is valid, beside that one itself; one on the card is, beside the card taken out
+    ∷ by-field keys-away 13 0x10_03_0009_0005_00_00_000000b8_000000b5_00000005_00000000 0x10_03_0004_0005_00_00_000000b8_000000b5_00000005_00000000
+    ∷ by-state keys-here 13 (mark-3-valid ∷ []) (mark-3-valid ∷ card-out ∷ []) 0x10_02_0001_0002_00_00_000000a9_000000a2_00000005_00000000
+    -- 17: "second is no recovery record"; "either record is not on the phone"; "domains or owners (the event's included) differ": the record's domain, its
+    -- owner, the event's; "the verifying key is not the recovery key": another, and none
+    ∷ by-field keys-away 17 0x10_02_0001_0008_00_00_000000a9_000000a2_00000005_00000000 0x10_02_0001_0002_00_00_000000a9_000000a2_00000005_00000000
+    ∷ by-field keys-here 17 0x10_02_0003_0002_00_00_000000a9_000000a2_00000005_00000000 0x10_02_0001_0002_00_00_000000a9_000000a2_00000005_00000000
+    ∷ by-field keys-away 17 0x10_02_0001_0005_00_00_000000a9_000000b5_00000005_00000000 0x10_02_0001_0002_00_00_000000a9_000000a2_00000005_00000000
+    ∷ by-event keys-away 17 (mark-1-invalid ∷ []) replace-8 replace-1
+    ∷ by-field keys-away 17 0x10_02_0001_0002_00_00_000000a9_000000a2_00000006_00000000 0x10_02_0001_0002_00_00_000000a9_000000a2_00000005_00000000
+    ∷ by-field keys-away 17 0x10_02_0001_0002_00_00_000000a9_000000a1_00000005_00000000 0x10_02_0001_0002_00_00_000000a9_000000a2_00000005_00000000
+    ∷ by-field keys-away 17 0x10_02_0001_0002_00_00_000000a9_00000000_00000005_00000000 0x10_02_0001_0002_00_00_000000a9_000000a2_00000005_00000000
     ∷ []
 
 -- the codes that the rules give to the two events

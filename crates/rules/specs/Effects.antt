@@ -114,6 +114,25 @@ withdraw e p = change-executable e (λ x. permitted (clear-bit (x .permissions) 
 unfoldable pub request : Event → Phone → Phone
 request e p = p
 
+-- 16: "The root keeps its id and slot, takes the new key, owner and expiry, and is marked valid."
+abbrev pub replaced : Event → Certificate → Certificate
+replaced e c =
+    record {
+      id = c .id;
+      place = c .place;
+      kind = c .kind;
+      domain = c .domain;
+      mark = 1;
+      enabled = c .enabled;
+      key = e .key;
+      verifying = c .verifying;
+      owner = e .owner;
+      expiry = e .expiry;
+    }
+
+unfoldable pub replace : Event → Phone → Phone
+replace e p = with-certificates (change (has-id (e .id)) (replaced e) (p .trust .certificates)) p
+
 -- by kind, from 0 on: there is no kind 0
 abbrev pub effects : List (Event → Phone → Phone)
 effects =
@@ -133,6 +152,7 @@ effects =
     ∷ give
     ∷ withdraw
     ∷ request
+    ∷ replace
     ∷ []
 
 unfoldable pub effect : Event → Phone → Phone

@@ -11,7 +11,7 @@ use Rattle.rules.specs.Words.{all, all-zero}
 use Rattle.rules.specs.ImageRules.{certificate-fits}
 
 -- kind 5: "id, second = place, third = kind, fourth = domain, all four u32"; "A third party root gets mark 1, enabled 1 exactly if the standing mode
--- is 1; other roots get mark 0"; an issued record gets 1 and 1 (I2)
+-- is 1; other roots get mark 0"; an issued record gets 1 and 1, a recovery record 0 and 1 (I2)
 unfoldable pub new-certificate : ℕ → Event → Certificate
 new-certificate mode e =
     record {
@@ -19,7 +19,7 @@ new-certificate mode e =
       place = e .second;
       kind = e .third;
       domain = e .fourth;
-      mark = cond (eqb (e .third) 0 && not (eqb (e .fourth) 3)) 0 1;
+      mark = cond (eqb (e .third) 1 || (eqb (e .third) 0 && eqb (e .fourth) 3)) 1 0;
       enabled = cond (eqb (e .third) 0 && eqb (e .fourth) 3 && not (eqb mode 1)) 0 1;
       key = e .key;
       verifying = e .verifying;
@@ -105,7 +105,12 @@ action-form p e =
     && ltb (e .second) (length (p .table))
     && all-zero (e .third ∷ e .fourth ∷ e .key ∷ e .verifying ∷ e .owner ∷ e .expiry ∷ [])
 
--- no form: "kind not 1..15"
+-- 16 replace: "id = root, second = recovery record, key, verifying key, owner, expiry"; "key 0 in event 16"
+unfoldable pub replace-form : Phone → Event → Bool
+replace-form p e =
+    not (eqb (e .id) 0) && not (eqb (e .second) 0) && not (eqb (e .key) 0) && all-zero (e .third ∷ e .fourth ∷ [])
+
+-- no form: "kind not 1..16"
 unfoldable pub no-form : Phone → Event → Bool
 no-form p e = false
 
@@ -128,8 +133,9 @@ forms =
     ∷ action-form
     ∷ action-form
     ∷ action-form
+    ∷ replace-form
     ∷ []
 
--- "kind not 1..15, actor above 4, a field out of range, unused field not 0, action not below the action count"
+-- "kind not 1..16, actor above 4, a field out of range, unused field not 0, action not below the action count"
 unfoldable pub malformed : Phone → Event → Bool
 malformed p e = not (leb (e .actor) 4 && getD forms (e .kind) no-form p e)

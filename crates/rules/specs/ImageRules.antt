@@ -60,10 +60,10 @@ unfoldable pub zero-certificate : Certificate → Bool
 zero-certificate c =
     all-zero (c .id ∷ c .place ∷ c .kind ∷ c .domain ∷ c .mark ∷ c .enabled ∷ c .key ∷ c .verifying ∷ c .owner ∷ c .expiry ∷ [])
 
--- "u8 kind (0 root, 1 issued), u8 domain 1..3, u8 mark (1 valid) and u8 enabled, each 0 or 1"; "an occupied one has id and key not 0"
+-- "u8 kind (0 root, 1 issued, 2 recovery), u8 domain 1..3, u8 mark (1 valid) and u8 enabled, each 0 or 1"; "an occupied one has id and key not 0"
 unfoldable pub certificate-ranges : Certificate → Bool
 certificate-ranges c =
-    not (eqb (c .id) 0) && not (eqb (c .key) 0) && leb (c .kind) 1 && between 1 3 (c .domain) && leb (c .mark) 1 && leb (c .enabled) 1
+    not (eqb (c .id) 0) && not (eqb (c .key) 0) && leb (c .kind) 2 && between 1 3 (c .domain) && leb (c .mark) 1 && leb (c .enabled) 1
 
 -- "Roots: verifying key 0; a manufacturer root has place 0; enabled is 1 unless it is a third party root."
 unfoldable pub root-fits : Certificate → Bool
@@ -74,10 +74,17 @@ root-fits c =
 unfoldable pub issued-fits : Certificate → Bool
 issued-fits c = not (eqb (c .verifying) 0) && eqb (c .mark) 1 && eqb (c .enabled) 1
 
+-- "kind 2, recovery: phone only, domain 1 or 2, verifying key 0, mark 0, enabled 1"
+unfoldable pub recovery-fits : Certificate → Bool
+recovery-fits c = eqb (c .place) 0 && leb (c .domain) 2 && eqb (c .verifying) 0 && eqb (c .mark) 0 && eqb (c .enabled) 1
+
 -- an occupied slot
 unfoldable pub certificate-fits : Certificate → Bool
 certificate-fits c =
-    certificate-ranges c && (eqb (c .kind) 0 implies root-fits c) && (eqb (c .kind) 1 implies issued-fits c)
+    certificate-ranges c
+    && (eqb (c .kind) 0 implies root-fits c)
+    && (eqb (c .kind) 1 implies issued-fits c)
+    && (eqb (c .kind) 2 implies recovery-fits c)
 
 -- a slot, free or occupied
 abbrev pub slot-fits : Certificate → Bool

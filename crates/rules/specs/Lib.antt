@@ -13,6 +13,7 @@ pub mod Step
 pub mod Demands
 pub mod Computing
 pub mod WorkedRun
+pub mod WorkedRecovery
 pub mod Damaged
 pub mod EachCode
 pub mod WhichList

@@ -1,4 +1,4 @@
--- 01's two lists of events, computed: for each of the fifteen kinds whether it withdraws and whether it gives. Assumes nothing.
+-- 01's two lists of events, computed: for each of the sixteen kinds whether it withdraws and whether it gives. Assumes nothing.
 use Prim.Native.Nat.{ℕ}
 use mathlib.Core.Bool.{Bool, true, false}
 use mathlib.Core.List.{List, [], _∷_, map}
@@ -77,10 +77,12 @@ entries =
     ∷ withdraws (of-kind 14)
     -- "A request changes nothing."
     ∷ neither (of-kind 15)
+    -- 02, item 4: "It belongs to neither list of demand 3."
+    ∷ neither (event 16 10 0)
     ∷ []
 
 -- every kind is there: 7 for three roots, 9 with its three modes
-pub every-kind : map (λ x. x .event .kind) entries ≡ (1 ∷ 2 ∷ 3 ∷ 4 ∷ 5 ∷ 6 ∷ 7 ∷ 7 ∷ 7 ∷ 8 ∷ 9 ∷ 9 ∷ 9 ∷ 10 ∷ 11 ∷ 12 ∷ 13 ∷ 14 ∷ 15 ∷ [])
+pub every-kind : map (λ x. x .event .kind) entries ≡ (1 ∷ 2 ∷ 3 ∷ 4 ∷ 5 ∷ 6 ∷ 7 ∷ 7 ∷ 7 ∷ 8 ∷ 9 ∷ 9 ∷ 9 ∷ 10 ∷ 11 ∷ 12 ∷ 13 ∷ 14 ∷ 15 ∷ 16 ∷ [])
 every-kind = refl
 
 -- what the definitions say of an event

@@ -12,7 +12,7 @@ use Rattle.records.specs.declared.Certificate.{Certificate}
 use Rattle.records.specs.declared.Event.{Event}
 use Rattle.rules.specs.Words.{all, all-zero}
 use Rattle.rules.specs.ImageRules.{certificate-fits}
-use Rattle.rules.specs.Forms.{new-certificate, listed, unlisted, clock-form, card-form, id-form, message-form, executable-form, action-form}
+use Rattle.rules.specs.Forms.{new-certificate, listed, unlisted, clock-form, card-form, id-form, message-form, executable-form, action-form, replace-form}
 use Rattle.terms.specs.Seldom.{seldom}
 use Rattle.rules.proofs.Tests.{and-l, and-r, by-test}
 use Rattle.rules.proofs.Fits.{occupied-out}
@@ -49,6 +49,13 @@ module _ (p : Phone) (e : Event) (s : ℕ) (q : s ≡ seldom e) where
   action-form-is a r =
       let z : e .key + s ≡ e .third + (e .fourth + (e .key + (e .verifying + (e .owner + (e .expiry + 0))))) = omega arith in
       ap₂ (λ m n. not (eqb (e .id) 0) && ltb (e .second) m && eqb n 0) r z
+
+pub replace-form-is : (p : Phone) (e : Event)
+    → (not (eqb (e .id) 0) && not (eqb (e .second) 0) && not (eqb (e .key) 0) && eqb (e .third + e .fourth) 0) ≡ replace-form p e
+unfolding replace-form all-zero
+replace-form-is p e =
+    let z : e .third + e .fourth ≡ e .third + (e .fourth + 0) = omega arith in
+    ap (λ n. not (eqb (e .id) 0) && not (eqb (e .second) 0) && not (eqb (e .key) 0) && eqb n 0) z
 
 -- ---- what a form that fits is worth
 
@@ -126,11 +133,9 @@ stored e m n =
 
 -- the certificate that an install event stores, from its two computed fields
 pub new-is : (mode : ℕ) (e : Event) (m n : ℕ)
-    → m ≡ cond (not (eqb (e .third) 0 && not (eqb (e .fourth) 3))) 1 0
+    → m ≡ cond (eqb (e .third) 1 || (eqb (e .third) 0 && eqb (e .fourth) 3)) 1 0
     → n ≡ cond (not (eqb (e .third) 0 && eqb (e .fourth) 3 && not (eqb mode 1))) 1 0
     → stored e m n ≡ new-certificate mode e
 unfolding new-certificate
 new-is mode e m n q w =
-    ap₂ (stored e)
-    (q ∙ unless (eqb (e .third) 0 && not (eqb (e .fourth) 3)))
-    (w ∙ unless (eqb (e .third) 0 && eqb (e .fourth) 3 && not (eqb mode 1)))
+    ap₂ (stored e) q (w ∙ unless (eqb (e .third) 0 && eqb (e .fourth) 3 && not (eqb mode 1)))

@@ -19,7 +19,7 @@ const ADMINISTRATOR: u8 = 1 << Event::ADMINISTRATOR;
 const PEOPLE: u8 = USER | OPERATOR | MANUFACTURER | ADMINISTRATOR;
 
 // The actors that may do an event: a row for each kind from 0 on, by the domains 0 to 3.
-const ACTORS: [[u8; 4]; 16] = [
+const ACTORS: [[u8; 4]; 17] = [
     // No kind is 0.
     [0; 4],
     // Clock, card in, card out, power up.
@@ -42,10 +42,12 @@ const ACTORS: [[u8; 4]; 16] = [
     [USER; 4],
     [USER; 4],
     [DEVICE; 4],
+    // Replace: nobody's where the root is a third party's.
+    [0, OPERATOR, MANUFACTURER, 0],
 ];
 
 pub fn may_act(kind: u8, domain: u8, actor: u8) -> bool
-    requires { ⌜ (kind < 16) × (domain < 4) × (actor < 5) ⌝ }
+    requires { ⌜ (kind < 17) × (domain < 4) × (actor < 5) ⌝ }
     ensures { λ r. ⌜ r ≡ may-act kind domain actor ⌝ }
 {
     let k = kind as usize;

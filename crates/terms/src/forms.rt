@@ -9,7 +9,9 @@ ghost use mathlib.Core.Bool.{cond, not};
 ghost use mathlib.Core.Path.{_≡_};
 ghost use Rattle.terms.specs.Seldom.{seldom};
 ghost use Rattle.records.specs.Phone.{Phone};
-ghost use Rattle.rules.specs.Forms.{action-form, card-form, clock-form, eight, executable-form, id-form, listed, message-form, new-certificate, unlisted};
+ghost use Rattle.rules.specs.Effects.{replaced};
+ghost use Rattle.rules.specs.Forms.{action-form, card-form, clock-form, eight, executable-form, id-form, listed, message-form, new-certificate};
+ghost use Rattle.rules.specs.Forms.{replace-form, unlisted};
 ghost use Rattle.rules.specs.Words.{all, all-zero};
 
 // How many numbers a message can list.
@@ -50,6 +52,12 @@ pub fn action_form(actions: usize, e: Event) -> bool
     ensures { λ r. ⌜ ((p : Phone) → actions ≡ length (p .table) → r ≡ action-form p e) ⌝ }
 {
     (e.id != 0) & ((e.second as usize) < actions) & (e.key as u64 + seldom(e) == 0)
+}
+
+pub fn replace_form(e: Event) -> bool
+    ensures { λ r. ⌜ ((p : Phone) → r ≡ replace-form p e) ⌝ }
+{
+    (e.id != 0) & (e.second != 0) & (e.key != 0) & (e.third as u64 + e.fourth as u64 == 0)
 }
 
 // One of the eight numbers that a configuration message may list.
@@ -115,17 +123,34 @@ pub fn message_form(e: Event) -> bool
 pub fn new_certificate(mode: u16, e: Event) -> Certificate
     ensures { λ r. ⌜ r ≡ new-certificate mode e ⌝ }
 {
-    let root = e.third == Certificate::ROOT;
-    let third_party = e.fourth == records::THIRD_PARTY;
+    let third_party_root = (e.third == Certificate::ROOT) & (e.fourth == records::THIRD_PARTY);
     Certificate {
         id: e.id,
         place: e.second,
         kind: e.third,
         domain: e.fourth,
-        mark: bit(!(root & !third_party)),
-        enabled: bit(!(root & third_party & (mode != Header::ENABLE_ALL))),
+        mark: bit((e.third == Certificate::ISSUED) | third_party_root),
+        enabled: bit(!(third_party_root & (mode != Header::ENABLE_ALL))),
         key: e.key,
         verifying: e.verifying,
+        owner: e.owner,
+        expiry: e.expiry,
+    }
+}
+
+// What a replace makes of the root c.
+pub fn replaced(e: Event, c: Certificate) -> Certificate
+    ensures { λ r. ⌜ r ≡ replaced e c ⌝ }
+{
+    Certificate {
+        id: c.id,
+        place: c.place,
+        kind: c.kind,
+        domain: c.domain,
+        mark: Certificate::VALID,
+        enabled: c.enabled,
+        key: e.key,
+        verifying: c.verifying,
         owner: e.owner,
         expiry: e.expiry,
     }

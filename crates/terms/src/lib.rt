@@ -4,6 +4,7 @@ pub mod forms;
 
 use records::Card;
 use records::Certificate;
+use records::Event;
 use records::Executable;
 use records::Row;
 use records::image;
@@ -13,8 +14,10 @@ ghost use Rattle.records.specs.Frame.{Framed};
 ghost use Rattle.records.specs.Phone.{decode};
 ghost use Rattle.rules.specs.Chains.{in-date, present, valid-root};
 ghost use Rattle.rules.specs.Effects.{phone-operator-root, on-a-card};
-ghost use Rattle.rules.specs.ImageRules.{card-fits, certificate-fits, certificate-ranges, issued-fits, root-fits, slot-fits, zero-certificate};
+ghost use Rattle.rules.specs.ImageRules.{card-fits, certificate-fits, certificate-ranges, issued-fits, recovery-fits, root-fits};
 ghost use Rattle.rules.specs.ImageRules.{executable-fits, key-of-one-domain, executable-slot-fits, row-fits, third-party-root, valid-in, zero-executable};
+ghost use Rattle.rules.specs.ImageRules.{slot-fits, zero-certificate};
+ghost use Rattle.rules.specs.Codes.{may-replace};
 ghost use Rattle.rules.specs.Parts.{apart};
 
 // Ids, and numbers of cards: 0 stands as often as it likes.
@@ -47,7 +50,7 @@ fn certificate_ranges(c: Certificate) -> bool
 {
     (c.id != 0)
         & (c.key != 0)
-        & (c.kind <= Certificate::ISSUED)
+        & (c.kind <= Certificate::RECOVERY)
         & ((records::OPERATOR <= c.domain) & (c.domain <= records::THIRD_PARTY))
         & (c.mark <= Certificate::VALID)
         & (c.enabled <= records::ENABLED)
@@ -67,10 +70,23 @@ fn issued_fits(c: Certificate) -> bool
     (c.verifying != 0) & (c.mark == Certificate::VALID) & (c.enabled == records::ENABLED)
 }
 
-// An occupied slot; "ranges as I2" of an install event go by it too.
+fn recovery_fits(c: Certificate) -> bool
+    ensures { λ r. ⌜ r ≡ recovery-fits c ⌝ }
+{
+    (c.place == 0)
+        & (c.domain <= records::MANUFACTURER)
+        & (c.verifying == 0)
+        & (c.mark == Certificate::INVALID)
+        & (c.enabled == records::ENABLED)
+}
+
+// An occupied slot; "ranges as I2" of an install event go by it too. Few records are recovery keys, so that is asked first and apart.
 pub fn certificate_fits(c: Certificate) -> bool
     ensures { λ r. ⌜ r ≡ certificate-fits c ⌝ }
 {
+    if c.kind == Certificate::RECOVERY {
+        return certificate_ranges(c) & recovery_fits(c);
+    }
     certificate_ranges(c)
         & (!(c.kind == Certificate::ROOT) | root_fits(c))
         & (!(c.kind == Certificate::ISSUED) | issued_fits(c))
@@ -192,4 +208,19 @@ pub fn on_a_card(c: Certificate) -> bool
     ensures { λ r. ⌜ r ≡ on-a-card c ⌝ }
 {
     (c.kind == Certificate::ROOT) & (c.domain == records::OPERATOR) & (c.place != 0)
+}
+
+// ---- what a replace asks
+
+// Whether event e may replace root r by record s.
+pub fn may_replace(e: Event, r: Certificate, s: Certificate) -> bool
+    ensures { λ b. ⌜ b ≡ may-replace e r s ⌝ }
+{
+    (s.kind == Certificate::RECOVERY)
+        & (s.place == 0)
+        & (r.place == 0)
+        & (r.domain == s.domain)
+        & (r.owner == s.owner)
+        & (e.owner == r.owner)
+        & (e.verifying == s.key)
 }

@@ -349,6 +349,12 @@ one-terms-listed-id κs a r r′ e e′ = returned
 pub one-terms-new-certificate : One-result Rattle.terms.proofs.forms.new_certificate.Reads.Learnt
 one-terms-new-certificate κs a r r′ e e′ = returned
 
+pub one-terms-replaced : One-result Rattle.terms.proofs.forms.replaced.Reads.Learnt
+one-terms-replaced κs a r r′ e e′ = returned
+
+pub one-terms-may-replace : One-result Rattle.terms.proofs.may_replace.Reads.Learnt
+one-terms-may-replace κs a r r′ e e′ = returned
+
 pub one-terms-may-act : One-result Rattle.terms.proofs.actors.may_act.Reads.Learnt
 one-terms-may-act κs a r r′ e e′ = returned
 
@@ -365,6 +371,9 @@ one-lookup-executable-room κs a r r′ e e′ = returned
 
 pub one-lookup-certificate-room : One-result Rattle.lookup.proofs.certificate_room.Reads.Learnt
 one-lookup-certificate-room κs a r r′ e e′ = returned
+
+pub one-lookup-key-elsewhere : One-result Rattle.lookup.proofs.key_elsewhere.Reads.Learnt
+one-lookup-key-elsewhere κs a r r′ e e′ = returned
 
 pub one-lookup-in-card-table : One-result Rattle.lookup.proofs.in_card_table.Reads.Learnt
 one-lookup-in-card-table κs a r r′ e e′ = returned

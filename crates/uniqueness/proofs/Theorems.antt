@@ -62,6 +62,9 @@ one-terms-id-form κs a r r′ e e′ x y = returned (x no-phone) (y no-phone)
 pub one-terms-executable-form : One-result Rattle.terms.proofs.forms.executable_form.Reads.Learnt
 one-terms-executable-form κs a r r′ e e′ x y = returned (x no-phone) (y no-phone)
 
+pub one-terms-replace-form : One-result Rattle.terms.proofs.forms.replace_form.Reads.Learnt
+one-terms-replace-form κs a r r′ e e′ x y = returned (x no-phone) (y no-phone)
+
 pub one-terms-message-form : One-result Rattle.terms.proofs.forms.message_form.Reads.Learnt
 one-terms-message-form κs a r r′ e e′ x y = returned (x no-phone) (y no-phone)
 
@@ -114,6 +117,9 @@ one-certificates-mark-valid κs a r r′ e e′ = one-handled
 
 pub one-certificates-mark-invalid : One-outcome Rattle.certificates.proofs.mark_invalid.Reads.Learnt (λ e. e .0 .now ∷ [])
 one-certificates-mark-invalid κs a r r′ e e′ = one-handled
+
+pub one-certificates-replace : One-outcome Rattle.certificates.proofs.replace.Reads.Learnt (λ e. e .0 .now ∷ [])
+one-certificates-replace κs a r r′ e e′ = one-handled
 
 pub one-certificates-message : One-outcome Rattle.certificates.proofs.message.Reads.Learnt (λ e. e .0 .now ∷ [])
 one-certificates-message κs a r r′ e e′ = one-handled

@@ -9,12 +9,12 @@ use borrow.Author.Tests.{ne-eqb}
 use lib.Dec.{eqb}
 use lib.ListN.{length, length-append}
 use Rattle.explanations.specs.Why.{Line, line, said-link, said-unsigned, said-unheld, said-untrusted}
-use Rattle.explanations.specs.Why.{said-absent, said-invalid, said-disabled, said-past, said-unserved}
+use Rattle.explanations.specs.Why.{said-recovery, said-absent, said-invalid, said-disabled, said-past, said-unserved}
 use Rattle.stream.specs.Decimal.{most-digits, decimal}
 use Rattle.stream.proofs.Texts.{decimal-small}
 use Rattle.stream.proofs.JoinedTexts.{Put, then}
 use Rattle.why.specs.SentenceText.{certificate, application, key-of-none, ended, is-a-root, is-verified-by, is-untrusted, is-unsigned}
-use Rattle.why.specs.SentenceText.{is-absent, is-invalid, is-disabled, is-past, is-unserved}
+use Rattle.why.specs.SentenceText.{is-recovery, is-absent, is-invalid, is-disabled, is-past, is-unserved}
 use Rattle.why.specs.SentenceText.{about, link-sentence, reason-sentence, sentence, longest-sentence}
 
 -- ---- a number between its words
@@ -44,9 +44,10 @@ link-next above n e = rw (ne-eqb above 0 e) refl
 
 -- ---- a number that says nothing, and one that gives a reason
 
-pub reason-none : (w n : ℕ) → w ≢ said-absent → w ≢ said-invalid → w ≢ said-disabled → w ≢ said-past → w ≢ said-unserved → reason-sentence w n ≡ []
+pub reason-none : (w n : ℕ) → w ≢ said-recovery → w ≢ said-absent → w ≢ said-invalid → w ≢ said-disabled → w ≢ said-past → w ≢ said-unserved
+    → reason-sentence w n ≡ []
 unfolding reason-sentence
-reason-none w n a b c d e = rw (ne-eqb w 11 a, ne-eqb w 12 b, ne-eqb w 13 c, ne-eqb w 14 d, ne-eqb w 15 e) refl
+reason-none w n r a b c d e = rw (ne-eqb w 10 r, ne-eqb w 11 a, ne-eqb w 12 b, ne-eqb w 13 c, ne-eqb w 14 d, ne-eqb w 15 e) refl
 
 pub sentence-reason : (above w n : ℕ) → w ≢ said-link → w ≢ said-unsigned → w ≢ said-unheld → w ≢ said-untrusted
     → sentence above (line w n) ≡ reason-sentence w n
@@ -77,11 +78,12 @@ link-small above n =
 reason-small : (w n : ℕ) → length (reason-sentence w n) ≤ longest-sentence
 unfolding reason-sentence
 reason-small w n =
-    short (eqb w said-absent) _ _ (brief certificate n is-absent (omega arith))
+    short (eqb w said-recovery) _ _ (brief certificate n is-recovery (omega arith))
+    (short (eqb w said-absent) _ _ (brief certificate n is-absent (omega arith))
     (short (eqb w said-invalid) _ _ (brief certificate n is-invalid (omega arith))
     (short (eqb w said-disabled) _ _ (brief certificate n is-disabled (omega arith))
     (short (eqb w said-past) _ _ (brief certificate n is-past (omega arith))
-    (short (eqb w said-unserved) _ _ (brief certificate n is-unserved (omega arith)) (omega arith)))))
+    (short (eqb w said-unserved) _ _ (brief certificate n is-unserved (omega arith)) (omega arith))))))
 
 pub sentence-small : (above : ℕ) (n : Line) → length (sentence above n) ≤ longest-sentence
 unfolding sentence

@@ -6,7 +6,7 @@ use Rattle.octets.specs.Octets.{bytes, put}
 use Rattle.rules.specs.Step.{run}
 use Rattle.rules.specs.WorkedRun.{image, events, chains-image}
 use Rattle.explanations.specs.Why.{line, said-link, said-unsigned, said-unheld, said-untrusted}
-use Rattle.explanations.specs.Why.{said-absent, said-invalid, said-disabled, said-past, said-unserved}
+use Rattle.explanations.specs.Why.{said-recovery, said-absent, said-invalid, said-disabled, said-past, said-unserved}
 use Rattle.explanations.specs.WorkedExplanations.{telling}
 use Rattle.reasons.specs.Lines.{why-code, lines-of}
 use Rattle.stream.specs.Decimal.{places-within, decimal}
@@ -91,6 +91,12 @@ pub unheld : sentence 0 (line said-unheld 1)
     ≡ bytes 44 0x6e6f_20_6365727469666963617465_20_686173_20_746865_20_6b6579_20_6f66_20_6170706c69636174696f6e_20_31_0a
 unfolding printing
 unheld = refl
+
+-- "certificate 40 is a recovery key"
+pub recovery : sentence 0 (line said-recovery 40)
+    ≡ bytes 33 0x6365727469666963617465_20_3430_20_6973_20_61_20_7265636f76657279_20_6b6579_0a
+unfolding printing
+recovery = refl
 
 -- "certificate 21 is on an absent card"
 pub absent : sentence 0 (line said-absent 21)

@@ -6,7 +6,7 @@ use lib.Dec.{eqb}
 use lib.ListN.{length}
 use Rattle.octets.specs.Octets.{be8, be16, bytes}
 use Rattle.explanations.specs.Why.{Line, line, said-link, said-unsigned, said-unheld, said-untrusted}
-use Rattle.explanations.specs.Why.{said-absent, said-invalid, said-disabled, said-past, said-unserved}
+use Rattle.explanations.specs.Why.{said-recovery, said-absent, said-invalid, said-disabled, said-past, said-unserved}
 use Rattle.reasons.specs.Lines.{line-size, most-lines, why-code, lines-of, why}
 use Rattle.stream.specs.Decimal.{most-digits, decimal}
 use Rattle.stream.specs.Refusal.{image-refused}
@@ -47,6 +47,10 @@ is-untrusted = bytes 35 0x20_6973_20_756e74727573746564_20_756e74696c_20_6974_20
 abbrev pub is-unsigned : List ℕ
 is-unsigned = bytes 13 0x20_6973_20_756e7369676e6564_0a
 
+-- " is a recovery key"
+abbrev pub is-recovery : List ℕ
+is-recovery = bytes 19 0x20_6973_20_61_20_7265636f76657279_20_6b6579_0a
+
 -- " is on an absent card"
 abbrev pub is-absent : List ℕ
 is-absent = bytes 22 0x20_6973_20_6f6e_20_616e_20_616273656e74_20_63617264_0a
@@ -77,15 +81,17 @@ about before n behind = before ++ decimal n ++ behind
 unfoldable pub link-sentence : ℕ → ℕ → List ℕ
 link-sentence above n = cond (eqb above 0) (about certificate n is-a-root) (about certificate n is-verified-by ++ about certificate above ended)
 
+-- 02, item 4: "a reason before the others"
 -- "on an absent card; marked invalid; disabled; past its date; no good signer within three links"; another number says nothing
 unfoldable pub reason-sentence : ℕ → ℕ → List ℕ
 reason-sentence what n =
-    cond (eqb what said-absent) (about certificate n is-absent)
+    cond (eqb what said-recovery) (about certificate n is-recovery)
+    (cond (eqb what said-absent) (about certificate n is-absent)
     (cond (eqb what said-invalid) (about certificate n is-invalid)
     (cond (eqb what said-disabled) (about certificate n is-disabled)
     (cond (eqb what said-past) (about certificate n is-past)
     (cond (eqb what said-unserved) (about certificate n is-unserved)
-    []))))
+    [])))))
 
 -- what a line says, below one with the id `above`
 unfoldable pub sentence : ℕ → Line → List ℕ

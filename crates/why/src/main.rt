@@ -53,6 +53,7 @@ fn put_reason(out: &mut [u8], at: usize, what: u8, id: u16) -> usize
     ensures { λ r. ⌜ (now (out .exit) ≡ put (now (out .entry)) at (reason-sentence what id)) × (r ≡ at + length (reason-sentence what id)) ⌝ }
 {
     match what {
+        10 => put_about(out, at, b"certificate ", id, b" is a recovery key\n"),
         11 => put_about(out, at, b"certificate ", id, b" is on an absent card\n"),
         12 => put_about(out, at, b"certificate ", id, b" is marked invalid\n"),
         13 => put_about(out, at, b"certificate ", id, b" is disabled\n"),

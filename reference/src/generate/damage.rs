@@ -1,15 +1,17 @@
 //! Damaged images: every rule broken in each way that is known, and hurt without plan.
 //!
-//! Follows 01, "The image". Each way starts from an accepted phone; whether the wanted rule
+//! Follows 01, "The image", and 02, "Recovery keys". Each way starts from an accepted phone; whether the wanted rule
 //! is the first one broken is asked of `image_rules` and tried again where it is not.
+
+use std::collections::BTreeSet;
 
 use super::images::{accepted_phone, any_operator, Shape};
 use crate::chain::Trust;
 use crate::image_rules::{first_broken, Broken};
 use crate::phone::{
-    u32_at, Card, Certificate, Executable, Header, Phone, ISSUED, LARGEST_IMAGE, MANUFACTURER,
-    MOST_ACTIONS, MOST_CARDS, MOST_CERTIFICATES, MOST_EXECUTABLES, OPERATOR, ROOT, TABLE_ROW_SIZE,
-    THIRD_PARTY,
+    u32_at, Card, Certificate, Executable, Header, Phone, ISSUED, LARGEST_IMAGE,
+    LAST_CERTIFICATE_KIND, MANUFACTURER, MOST_ACTIONS, MOST_CARDS, MOST_CERTIFICATES,
+    MOST_EXECUTABLES, OPERATOR, RECOVERY, ROOT, TABLE_ROW_SIZE, THIRD_PARTY,
 };
 use crate::random::Random;
 
@@ -28,7 +30,7 @@ pub enum Damage {
 use Damage::{Bytes, Field, Parts};
 
 /// Every way to break a rule, with the damage that does it.
-const WAYS: [(u8, &str, Damage); 58] = [
+const WAYS: [(u8, &str, Damage); 66] = [
     (1, "stream shorter than header", Bytes(cut_in_header)),
     (1, "buffer shorter than total", Bytes(cut_in_parts)),
     (1, "total below 40 or above 2536", Field(total)),
@@ -61,14 +63,21 @@ const WAYS: [(u8, &str, Damage); 58] = [
     (2, "issued without verifying key", Parts(issued_by_none)),
     (2, "issued with mark 0", Parts(issued_invalid)),
     (2, "issued with enabled 0", Parts(issued_disabled)),
+    (2, "recovery key on card", Parts(recovery_on_card)),
+    (2, "recovery key of third party", Parts(recovery_of_third)),
+    (2, RECOVERY_VERIFIED, Parts(recovery_verified)),
+    (2, "recovery key with mark 1", Parts(recovery_valid)),
+    (2, "recovery key with enabled 0", Parts(recovery_disabled)),
     (3, "card number 0", Parts(card_number_0)),
     (3, "card zero field", Parts(card_zero)),
     (3, "card numbers not distinct", Parts(same_card_twice)),
     (3, "card present not in table", Parts(strange_card_present)),
     (3, "place not in table", Parts(strange_place)),
-    (4, "certificate ids not distinct", Parts(same_id)),
+    (4, IDS_NOT_DISTINCT, Parts(same_id)),
+    (4, IDS_NOT_DISTINCT, Parts(id_of_recovery)),
     (4, KEY_SHARED, Parts(key_in_two_domains)),
     (4, KEY_SHARED, Parts(key_in_two_domains_and_away)),
+    (4, KEY_SHARED, Parts(recovery_key_in_two_domains)),
     (4, STRANGE_OWNER_ON_CARD, Parts(strange_owner_on_card)),
     (5, "two valid operator roots on phone", Parts(two_on_phone)),
     (5, "two valid operator roots on a card", Parts(two_on_card)),
@@ -87,10 +96,13 @@ const WAYS: [(u8, &str, Damage); 58] = [
     (8, "domain without signing key", Parts(unsigned_with_domain)),
     (8, "domain without chain", Parts(domain_without_chain)),
     (8, "domain without chain", Parts(lost_link)),
+    (8, "domain without chain", Parts(link_made_recovery)),
 ];
 
 // The longer ways, as `image_rules` says them.
 const ROOT_NOT_ENABLED: &str = "operator/manufacturer root not enabled";
+const IDS_NOT_DISTINCT: &str = "certificate ids not distinct";
+const RECOVERY_VERIFIED: &str = "recovery key with verifying key";
 const KEY_SHARED: &str = "key shared between domains";
 const STRANGE_OWNER_ON_CARD: &str = "operator root on card of another operator";
 const ROOTS_ON_BOTH: &str = "valid operator root on phone beside one on present card";
@@ -104,6 +116,12 @@ const PERMISSION_BEYOND_ACTIONS: &str = "permission bit at or above action count
 /// How many ways there are; a case's number chooses among them in turn.
 pub fn count_of_ways() -> usize {
     WAYS.len()
+}
+
+/// How many of them differ in what `image_rules` says: some are reached by more than one damage.
+pub fn count_of_different_ways() -> usize {
+    let different: BTreeSet<(u8, &str)> = WAYS.iter().map(|(rule, way, _)| (*rule, *way)).collect();
+    different.len()
 }
 
 /// The damages that break a rule, one for each way.
@@ -311,6 +329,10 @@ fn is_issued(record: &Certificate) -> bool {
     record.kind == ISSUED
 }
 
+fn is_recovery(record: &Certificate) -> bool {
+    record.kind == RECOVERY
+}
+
 fn certificate_id_0(random: &mut Random, phone: &mut Phone) {
     change_one_of(random, phone, any_record, |c| c.id = 0);
 }
@@ -320,7 +342,7 @@ fn certificate_key_0(random: &mut Random, phone: &mut Phone) {
 }
 
 fn certificate_kind(random: &mut Random, phone: &mut Phone) {
-    let kind = beyond_one(random);
+    let kind = random.one_of([LAST_CERTIFICATE_KIND + 1, 4, 128, 129, 130, 255]);
     change_one_of(random, phone, any_record, |c| c.kind = kind);
 }
 
@@ -344,6 +366,38 @@ fn issued_invalid(random: &mut Random, phone: &mut Phone) {
 
 fn issued_disabled(random: &mut Random, phone: &mut Phone) {
     change_one_of(random, phone, is_issued, |c| c.enabled = 0);
+}
+
+fn recovery_on_card(random: &mut Random, phone: &mut Phone) {
+    let place = any_card(random, phone).number;
+    change_recovery(random, phone, |c| c.place = place);
+}
+
+fn recovery_of_third(random: &mut Random, phone: &mut Phone) {
+    change_recovery(random, phone, |c| c.domain = THIRD_PARTY);
+}
+
+fn recovery_verified(random: &mut Random, phone: &mut Phone) {
+    let key = random.one_of([1, 0x0100_0000, u32::MAX]);
+    change_recovery(random, phone, |c| c.verifying_key = key);
+}
+
+fn recovery_valid(random: &mut Random, phone: &mut Phone) {
+    change_recovery(random, phone, |c| c.mark = 1);
+}
+
+fn recovery_disabled(random: &mut Random, phone: &mut Phone) {
+    change_recovery(random, phone, |c| c.enabled = 0);
+}
+
+/// Changes a recovery record; where the phone has none, one is put there first.
+fn change_recovery(random: &mut Random, phone: &mut Phone, change: impl Fn(&mut Certificate)) {
+    if !phone.occupied_certificates().any(is_recovery) {
+        let owner = any_operator(random);
+        let domain = random.one_of([OPERATOR, MANUFACTURER]);
+        put(random, phone, RECOVERY, domain, 0, owner, 0);
+    }
+    change_one_of(random, phone, is_recovery, change);
 }
 
 pub fn change_one_of(
@@ -428,7 +482,7 @@ fn strange_card_present(random: &mut Random, phone: &mut Phone) {
 
 fn strange_place(random: &mut Random, phone: &mut Phone) {
     let place = random.one_of([10, 254, 513, 0x0A00]);
-    let is_meant = |c: &Certificate| !c.is_root_of(MANUFACTURER);
+    let is_meant = |c: &Certificate| !c.is_root_of(MANUFACTURER) && !is_recovery(c);
     change_one_of(random, phone, is_meant, |c| c.place = place);
 }
 
@@ -443,6 +497,15 @@ fn same_id(random: &mut Random, phone: &mut Phone) {
     }
 }
 
+fn id_of_recovery(random: &mut Random, phone: &mut Phone) {
+    let mut records = occupied(&phone.certificates);
+    records.retain(is_recovery);
+    if let Some(recovery) = random.choose(&records) {
+        let is_another = |c: &Certificate| c.id != recovery.id;
+        change_one_of(random, phone, is_another, |c| c.id = recovery.id);
+    }
+}
+
 fn key_in_two_domains(random: &mut Random, phone: &mut Phone) {
     let records = occupied(&phone.certificates);
     share_key_of(random, phone, &records);
@@ -452,6 +515,13 @@ fn key_in_two_domains(random: &mut Random, phone: &mut Phone) {
 fn key_in_two_domains_and_away(random: &mut Random, phone: &mut Phone) {
     let mut records = occupied(&phone.certificates);
     records.retain(|c| !phone.is_present(c.place));
+    share_key_of(random, phone, &records);
+}
+
+/// The record that has the key already is a recovery one.
+fn recovery_key_in_two_domains(random: &mut Random, phone: &mut Phone) {
+    let mut records = occupied(&phone.certificates);
+    records.retain(is_recovery);
     share_key_of(random, phone, &records);
 }
 
@@ -614,11 +684,23 @@ fn lost_link(random: &mut Random, phone: &mut Phone) {
     let absent = phone.cards.iter().find(|c| c.number != phone.card_present);
     let away = absent.map_or(0, |card| card.number);
     let how = random.below(2);
-    change_one_of(random, phone, any_record, |c| match (c.kind, c.domain) {
+    let is_meant = |c: &Certificate| !is_recovery(c);
+    change_one_of(random, phone, is_meant, |c| match (c.kind, c.domain) {
         (ROOT, THIRD_PARTY) if how == 0 => c.enabled = 0,
         (ROOT, _) => c.mark = 0,
         _ if how == 0 => c.expiry = last_second,
         _ => c.place = away,
+    });
+}
+
+/// One record with its key and its domain becomes a recovery one, which is no link.
+fn link_made_recovery(random: &mut Random, phone: &mut Phone) {
+    let is_meant = |c: &Certificate| !is_recovery(c) && c.domain != THIRD_PARTY;
+    change_one_of(random, phone, is_meant, |c| {
+        c.kind = RECOVERY;
+        c.place = 0;
+        c.mark = 0;
+        c.verifying_key = 0;
     });
 }
 
@@ -650,6 +732,18 @@ pub fn any_card(random: &mut Random, phone: &Phone) -> Card {
 
 /// Puts a root into a slot that holds no root yet, over whatever is there.
 fn put_root(random: &mut Random, phone: &mut Phone, domain: u8, place: u16, owner: u32, mark: u8) {
+    put(random, phone, ROOT, domain, place, owner, mark);
+}
+
+fn put(
+    random: &mut Random,
+    phone: &mut Phone,
+    kind: u8,
+    domain: u8,
+    place: u16,
+    owner: u32,
+    mark: u8,
+) {
     let known: Vec<u16> = phone.occupied_certificates().map(|c| c.id).collect();
     let slots: Vec<usize> = (0..phone.certificates.len())
         .filter(|&n| !phone.certificates[n].is_some_and(|c| c.is_valid_root_of(domain)))
@@ -663,7 +757,7 @@ fn put_root(random: &mut Random, phone: &mut Phone, domain: u8, place: u16, owne
     phone.certificates[slot] = Some(Certificate {
         id,
         place,
-        kind: ROOT,
+        kind,
         domain,
         mark,
         enabled: 1,

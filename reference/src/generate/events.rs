@@ -1,20 +1,22 @@
 //! Events chosen by looking at the state they meet, so that the deeper codes occur often.
 //!
-//! Follows 01, "Events" and "What an event is told". For each event a kind and a code are
-//! aimed at; of several fitting events the first with that code is taken. The aim only steers
-//! what is tried: what the answer has to be is said by `events` alone.
+//! Follows 01, "Events" and "What an event is told", and 02, "Recovery keys". For each event a kind
+//! and a code are aimed at; of several fitting events the first with that code is taken. The aim
+//! only steers what is tried: what the answer has to be is said by `events` alone.
 
 use super::images::{any_expiry, any_operator, expiry_in_date, key_at_distance};
+use super::replacements;
 use crate::chain::Trust;
 use crate::events::*;
 use crate::phone::{
-    Certificate, Executable, Phone, ENABLE_LISTED, ISSUED, MANUFACTURER, OPERATOR, ROOT,
-    THIRD_PARTY,
+    Certificate, Executable, Phone, ENABLE_LISTED, ISSUED, LAST_CERTIFICATE_KIND, MANUFACTURER,
+    OPERATOR, RECOVERY, ROOT, THIRD_PARTY,
 };
 use crate::random::Random;
 
 /// How often each kind is chosen, from kind 1 on.
-const KIND_WEIGHTS: [usize; 15] = [5, 6, 3, 5, 14, 5, 12, 4, 6, 7, 3, 14, 6, 4, 16];
+const KIND_WEIGHTS: [usize; LAST_KIND as usize] =
+    [5, 6, 3, 5, 14, 5, 12, 4, 6, 7, 3, 14, 6, 4, 16, 14];
 
 /// How many candidates are tried for an aim before any is taken.
 const TRIES: usize = 14;
@@ -44,6 +46,7 @@ pub fn codes_of(kind: u8) -> &'static [u8] {
         CONFIGURATION => &[0, 2, 3, 4, 12],
         INSTALL_EXECUTABLE => &[0, 2, 4, 9, 14],
         REQUEST => &[0, 2, 3, 4, 15, 16],
+        REPLACE => &[0, 2, 3, 4, 8, 10, 11, 12, 13, 17],
         DELETE_EXECUTABLE | VERIFY | GIVE | WITHDRAW => &[0, 2, 3, 4],
         _ => &[2],
     }
@@ -141,11 +144,11 @@ fn noise(random: &mut Random) -> Vec<u8> {
     let mut record = random.bytes(Event::SIZE);
     match random.below(3) {
         0 => {}
-        1 => record[0] = random.between(0, 16) as u8,
+        1 => record[0] = random.between(0, usize::from(LAST_KIND) + 1) as u8,
         _ => {
             // Mostly zero bytes get past the form of a few kinds.
             record = vec![0; Event::SIZE];
-            record[0] = random.between(0, 16) as u8;
+            record[0] = random.between(0, usize::from(LAST_KIND) + 1) as u8;
             for _ in 0..random.between(0, 3) {
                 let at = random.below(Event::SIZE);
                 record[at] = random.between(0, 12) as u8;
@@ -164,6 +167,9 @@ fn aimed(random: &mut Random, phone: &Phone) -> Event {
     };
     let mut event = candidate(random, phone, kind);
     for _ in 0..TRIES {
+        if kind == REPLACE {
+            replacements::steer(random, phone, &mut event, aim);
+        }
         match aim {
             11 => bring_operators_together(random, phone, &mut event),
             2 => spoil_form(random, phone, &mut event),
@@ -204,13 +210,14 @@ pub fn candidate(random: &mut Random, phone: &Phone, kind: u8) -> Event {
             event.id = executable_id_to_use(random, phone);
             event.second = any_action(random, phone);
         }
+        REPLACE => replacements::plan(random, phone, &mut event),
         _ => {}
     }
     event.actor = allowed_actor(random, phone, &event);
     event
 }
 
-/// The certificate's domain counts for kinds 5 to 8.
+/// The certificate's domain counts for kinds 5 to 8 and 16.
 fn domain_that_counts(phone: &Phone, event: &Event) -> u8 {
     match event.kind {
         INSTALL_CERTIFICATE => event.fourth,
@@ -218,9 +225,11 @@ fn domain_that_counts(phone: &Phone, event: &Event) -> u8 {
     }
 }
 
-fn allowed_actor(random: &mut Random, phone: &Phone, event: &Event) -> u8 {
+/// Where nobody may act, it is anybody.
+pub(super) fn allowed_actor(random: &mut Random, phone: &Phone, event: &Event) -> u8 {
     let actors = allowed_actors(event.kind, domain_that_counts(phone, event));
-    random.choose(actors).unwrap_or(DEVICE)
+    let anybody = random.between(usize::from(DEVICE), usize::from(ADMINISTRATOR)) as u8;
+    random.choose(actors).unwrap_or(anybody)
 }
 
 /// The clock, the next expiry and what lies beside them.
@@ -256,19 +265,25 @@ fn any_card_number(random: &mut Random, phone: &Phone) -> u16 {
     }
 }
 
-fn all_certificates(phone: &Phone) -> Vec<Certificate> {
+pub(super) fn all_certificates(phone: &Phone) -> Vec<Certificate> {
     phone.occupied_certificates().copied().collect()
 }
 
-fn all_executables(phone: &Phone) -> Vec<Executable> {
+pub(super) fn all_executables(phone: &Phone) -> Vec<Executable> {
     phone.occupied_executables().copied().collect()
 }
 
-/// The id of a certificate; for marks more often a root.
+/// The id of a certificate; for marks more often a root, and now and then a recovery record.
 fn any_certificate_id(random: &mut Random, phone: &Phone, kind: u8) -> u16 {
     let mut records = all_certificates(phone);
-    if kind != DELETE_CERTIFICATE && random.percent(75) {
-        records.retain(|c| c.kind == ROOT);
+    if kind != DELETE_CERTIFICATE {
+        match random.below(20) {
+            0..=14 => records.retain(|c| c.kind == ROOT),
+            15 if records.iter().any(|c| c.kind == RECOVERY) => {
+                records.retain(|c| c.kind == RECOVERY)
+            }
+            _ => {}
+        }
     }
     // Roots that come back keep chains alive; invalid ones are the more interesting to mark.
     if kind == MARK_VALID && random.percent(60) {
@@ -323,7 +338,7 @@ fn executable_id_that(
 }
 
 /// An id that is not in the list and not 0.
-fn unknown_id(random: &mut Random, known: &[u16]) -> u16 {
+pub(super) fn unknown_id(random: &mut Random, known: &[u16]) -> u16 {
     for _ in 0..20 {
         let id = match random.below(4) {
             0 => random.one_of([1, 255, 256, 257, 32768, 65534, 65535]),
@@ -387,29 +402,37 @@ fn any_signing_key(random: &mut Random, phone: &Phone) -> u32 {
     }
 }
 
-/// A certificate to install: twins, longer chains and new roots.
+/// A certificate to install: twins, longer chains, new roots and recovery keys.
 fn plan_certificate(random: &mut Random, phone: &Phone, event: &mut Event) {
     let known = certificate_ids(phone);
     event.id = match random.percent(12) {
         true => random.choose(&known).unwrap_or(1),
         false => unknown_id(random, &known),
     };
-    event.fourth = random.one_of([OPERATOR, MANUFACTURER, THIRD_PARTY]);
-    event.third = random.one_of([ROOT, ISSUED]);
+    event.third = random.one_of([ROOT, ROOT, ROOT, ISSUED, ISSUED, ISSUED, RECOVERY, RECOVERY]);
+    event.fourth = match event.third {
+        RECOVERY => random.one_of([OPERATOR, MANUFACTURER]),
+        _ => random.one_of([OPERATOR, MANUFACTURER, THIRD_PARTY]),
+    };
+    let is_tied_to_phone = match event.third {
+        ROOT => event.fourth == MANUFACTURER,
+        RECOVERY => true,
+        _ => false,
+    };
     event.second = match random.below(8) {
+        _ if is_tied_to_phone => 0,
         0..=3 => 0,
         4..=5 => phone.card_present,
         _ => any_card_number(random, phone),
     };
-    let is_root = event.third == ROOT;
-    if is_root && event.fourth == MANUFACTURER {
-        event.second = 0;
-    }
     event.key = key_to_install(random, phone, event.fourth);
-    if !is_root {
+    if event.third == ISSUED {
         event.verifying_key = key_to_verify_with(random, phone, event.fourth);
     }
-    event.owner = owner_to_install(random, phone, event.second);
+    event.owner = match event.third {
+        RECOVERY => replacements::owner_of_a_root(random, phone, event.fourth),
+        _ => owner_to_install(random, phone, event.second),
+    };
     event.expiry = match random.percent(70) {
         true => expiry_in_date(random, phone.clock),
         false => any_expiry(random, phone.clock),
@@ -452,7 +475,7 @@ fn key_to_verify_with(random: &mut Random, phone: &Phone, domain: u8) -> u32 {
     random.choose(&records).map_or(1, |c| c.key)
 }
 
-fn owner_to_install(random: &mut Random, phone: &Phone, place: u16) -> u32 {
+pub(super) fn owner_to_install(random: &mut Random, phone: &Phone, place: u16) -> u32 {
     let card = match place {
         0 => phone.present_card(),
         number => phone.card(number),
@@ -487,14 +510,14 @@ fn plan_message(random: &mut Random, phone: &Phone, event: &mut Event) {
 /// Makes the form wrong in one of the ways that code 2 knows.
 fn spoil_form(random: &mut Random, phone: &Phone, event: &mut Event) {
     let any = random.u8();
-    // These two use most of their fields, so a byte at random seldom spoils them.
-    let has_ranges = matches!(event.kind, INSTALL_CERTIFICATE | CONFIGURATION);
+    // These use most of their fields, so a byte at random seldom spoils them.
+    let has_ranges = matches!(event.kind, INSTALL_CERTIFICATE | CONFIGURATION | REPLACE);
     if has_ranges && random.percent(50) {
         return spoil_range(random, phone, event);
     }
     match random.below(10) {
         0 => event.actor = random.one_of([5, 5, 255, any | 8]),
-        1 => event.kind = random.one_of([0, 16, 17, 255, any]),
+        1 => event.kind = random.one_of([0, LAST_KIND + 1, LAST_KIND + 2, 255, any]),
         2 | 3 => spoil_range(random, phone, event),
         4 => event.id = 0,
         _ => set_one_byte(random, event),
@@ -511,22 +534,25 @@ fn spoil_range(random: &mut Random, phone: &Phone, event: &mut Event) {
         }
         INSTALL_CERTIFICATE => spoil_certificate(random, event),
         CONFIGURATION => spoil_message(random, event),
+        REPLACE => replacements::spoil_range(random, event),
         _ => event.id = 0,
     }
 }
 
 fn spoil_certificate(random: &mut Random, event: &mut Event) {
-    match random.below(6) {
+    match random.below(8) {
         0 => event.fourth = random.one_of([0, 4, 255]),
-        1 => event.third = random.one_of([2, 255]),
+        1 => event.third = random.one_of([LAST_CERTIFICATE_KIND + 1, 255]),
         2 => event.key = 0,
-        3 => event.third ^= 1,
+        // One that it is not, often of another range.
+        3 => event.third = (event.third + random.one_of([1, 2])) % (LAST_CERTIFICATE_KIND + 1),
         4 => {
             event.third = ROOT;
             event.fourth = MANUFACTURER;
             event.verifying_key = 0;
             event.second = 1;
         }
+        5 | 6 => spoil_recovery(random, event),
         _ => {
             event.verifying_key = match event.verifying_key {
                 0 => 1,
@@ -534,6 +560,21 @@ fn spoil_certificate(random: &mut Random, event: &mut Event) {
             }
         }
     }
+}
+
+/// A recovery record that has all but one of the things that I2 asks of it.
+fn spoil_recovery(random: &mut Random, event: &mut Event) {
+    event.third = RECOVERY;
+    event.fourth = random.one_of([OPERATOR, MANUFACTURER]);
+    event.verifying_key = 0;
+    let place = std::mem::replace(&mut event.second, 0);
+    match random.below(3) {
+        0 => event.fourth = THIRD_PARTY,
+        1 => event.second = place.max(1),
+        _ => event.verifying_key = random.one_of([1, event.key, u32::MAX]),
+    }
+    // The actor of the domain, so that the form alone is wrong.
+    event.actor = event.fourth + 1;
 }
 
 fn spoil_message(random: &mut Random, event: &mut Event) {
@@ -575,16 +616,27 @@ fn spoil_id(random: &mut Random, phone: &Phone, event: &mut Event) {
     }
     // The other table's ids are good candidates: the two spaces are separate.
     let (own, other) = match event.kind {
-        DELETE_CERTIFICATE..=MARK_INVALID => (certificate_ids(phone), executable_ids(phone)),
+        DELETE_CERTIFICATE..=MARK_INVALID | REPLACE => {
+            (certificate_ids(phone), executable_ids(phone))
+        }
         _ => (executable_ids(phone), certificate_ids(phone)),
     };
-    event.id = match random.percent(40) {
+    let mut strange_id = || match random.percent(40) {
         true => random.choose(&other).unwrap_or(1),
         false => unknown_id(random, &own),
+    };
+    let strange = (strange_id(), strange_id());
+    (event.id, event.second) = match (event.kind, random.below(3)) {
+        (REPLACE, 0) => (event.id, strange.1),
+        (REPLACE, 1) => strange,
+        _ => (strange.0, event.second),
     };
 }
 
 fn spoil_actor(random: &mut Random, phone: &Phone, event: &mut Event) {
+    if event.kind == REPLACE && random.percent(50) {
+        return replacements::name_third_party(random, phone, event);
+    }
     let allowed = allowed_actors(event.kind, domain_that_counts(phone, event));
     let wrong: Vec<u8> = (DEVICE..=ADMINISTRATOR)
         .filter(|actor| !allowed.contains(actor))
@@ -607,7 +659,7 @@ fn bring_operators_together(random: &mut Random, phone: &Phone, event: &mut Even
 /// One field with a value that often does not fit; several of these make several faults.
 fn hurt_one_field(random: &mut Random, phone: &Phone, event: &mut Event) {
     let record = random.choose(&all_certificates(phone));
-    match random.below(10) {
+    match random.below(12) {
         0 => spoil_actor(random, phone, event),
         1 => spoil_id(random, phone, event),
         2 => spoil_form(random, phone, event),
@@ -617,6 +669,8 @@ fn hurt_one_field(random: &mut Random, phone: &Phone, event: &mut Event) {
         6 => event.owner = any_operator(random),
         7 => event.fourth = random.between(0, 4) as u8,
         8 => event.actor = random.between(0, 5) as u8,
+        9 => event.second = record.map_or(0, |c| c.id),
+        10 => event.verifying_key = record.map_or(0, |c| c.key),
         _ => {
             event.key = random.one_of([0, u32::MAX, phone.clock, phone.clock.saturating_sub(1)]);
         }

@@ -1,13 +1,14 @@
 //! Accepted images of many sizes, by construction and one last repair.
 //!
-//! Follows 01, "The image" and "Chains": the records are chosen so that chains of every
-//! length, cycles and bad twins stand in them, and are then made to keep I4 and I5.
+//! Follows 01, "The image" and "Chains", and 02, "Recovery keys": the records are chosen so that
+//! chains of every length, cycles, bad twins and recovery keys stand in them, and are then made to
+//! keep I4 and I5.
 
 use crate::chain::{Trust, MOST_LINKS};
 use crate::image_rules::first_broken_of_parts;
 use crate::phone::{
     Card, Certificate, Executable, Phone, TableRow, ISSUED, MANUFACTURER, MOST_ACTIONS, MOST_CARDS,
-    MOST_CERTIFICATES, MOST_EXECUTABLES, OPERATOR, ROOT, THIRD_PARTY,
+    MOST_CERTIFICATES, MOST_EXECUTABLES, OPERATOR, RECOVERY, ROOT, THIRD_PARTY,
 };
 use crate::random::Random;
 
@@ -279,11 +280,29 @@ impl Maker<'_> {
         }
     }
 
+    pub fn recovery(&mut self, domain: u8, key: u32, owner: u32) -> Certificate {
+        Certificate {
+            id: 0,
+            place: 0,
+            kind: RECOVERY,
+            domain,
+            mark: 0,
+            enabled: 1,
+            key,
+            verifying_key: 0,
+            owner,
+            expiry: any_expiry(self.random, self.clock),
+        }
+    }
+
     /// A record with the same key that is not good, for one reason or another.
     fn bad_twin(&mut self, of: &Certificate) -> Certificate {
         let mut twin = *of;
         let absent = self.absent_place();
-        match (of.kind, self.random.below(3), absent) {
+        match (of.kind, self.random.below(4), absent) {
+            (_, 3, _) if of.domain != THIRD_PARTY => {
+                twin = self.recovery(of.domain, of.key, of.owner);
+            }
             (_, 0, Some(place)) if !of.is_root_of(MANUFACTURER) => {
                 twin.place = place;
                 if of.is_root_of(OPERATOR) {
@@ -361,6 +380,31 @@ impl Maker<'_> {
         }
     }
 
+    /// A recovery key, mostly beside a root on the phone that it can replace; several of them can
+    /// be of one owner, and one can have the key of another record.
+    fn recovery_beside_root(&mut self) {
+        let domain = self.random.one_of([OPERATOR, OPERATOR, MANUFACTURER]);
+        let on_phone = |c: &&Certificate| c.is_root_of(domain) && c.place == 0;
+        let roots: Vec<Certificate> = self.records.iter().filter(on_phone).copied().collect();
+        let root = match self.random.choose(&roots) {
+            Some(root) if self.random.percent(75) => root,
+            _ => {
+                let key = self.keys.pick(self.random, domain);
+                let mut root = self.root(domain, key, 0);
+                root.mark = u8::from(self.random.percent(60));
+                self.records.push(root);
+                root
+            }
+        };
+        let owner = match self.random.percent(85) {
+            true => root.owner,
+            false => any_operator(self.random),
+        };
+        let key = self.keys.pick_new(self.random, domain, &[root.key]);
+        let recovery = self.recovery(domain, key, owner);
+        self.records.push(recovery);
+    }
+
     /// Issued records that verify each other in a ring, one alone or up to three.
     fn cycle(&mut self, domain: u8) {
         let length = self.random.between(1, 3);
@@ -407,14 +451,15 @@ impl Maker<'_> {
             let domain = self
                 .random
                 .one_of([OPERATOR, OPERATOR, MANUFACTURER, THIRD_PARTY]);
-            match self.random.weighted(&[52, 8, 14, 26]) {
+            match self.random.weighted(&[52, 8, 14, 26, 16]) {
                 0 => {
                     let links = self.random.one_of([1, 2, 3, 3, 4, 4, 5, 5]);
                     self.chain(domain, links);
                 }
                 1 => self.cycle(domain),
                 2 => self.card_root(),
-                _ => self.stray(domain),
+                3 => self.stray(domain),
+                _ => self.recovery_beside_root(),
             }
         }
         self.records.truncate(wanted);

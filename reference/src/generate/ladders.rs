@@ -1,14 +1,15 @@
 //! Phones to ask questions about: keys in levels, several records to a key, and much that is
 //! wrong with some of them.
 //!
-//! Follows 02, "Tell the trainee why": a chain is told by the lowest ids that serve, so ids rise
-//! and fall with the slots; the reasons have an order, so several are true of many a record.
+//! Follows 02, "Tell the trainee why" and "Recovery keys": a chain is told by the lowest ids that
+//! serve, so ids rise and fall with the slots; the reasons have an order, so several are true of
+//! many a record; recovery keys are among the twins, and beside the roots that they can replace.
 
 use super::images::{accepted_phone, distinct_ids, repair_marks, spread, Keys, Maker, Shape};
 use crate::chain::Trust;
 use crate::phone::{
-    Certificate, Executable, Phone, MANUFACTURER, MOST_CERTIFICATES, OPERATOR, ROOT, THIRD_PARTY,
-    UNTRUSTED,
+    Certificate, Executable, Phone, ISSUED, MANUFACTURER, MOST_CERTIFICATES, OPERATOR, RECOVERY,
+    ROOT, THIRD_PARTY, UNTRUSTED,
 };
 use crate::random::Random;
 
@@ -41,6 +42,9 @@ pub fn ladder_phone(random: &mut Random) -> Phone {
             .random
             .one_of([OPERATOR, MANUFACTURER, THIRD_PARTY, THIRD_PARTY]);
         keys.extend(ladder(&mut maker, domain));
+        if domain != THIRD_PARTY && maker.random.percent(60) {
+            keys.push(recovery_of_ladder(&mut maker, domain));
+        }
     }
     let records = maker.records;
     phone.certificates = in_slots(random, records);
@@ -80,13 +84,30 @@ fn keys_in_levels(maker: &mut Maker, domain: u8) -> Vec<Vec<u32>> {
     let mut levels: Vec<Vec<u32>> = Vec::new();
     for _ in 0..count {
         let mut level = Vec::new();
-        for _ in 0..maker.random.one_of([1, 1, 2]) {
+        for _ in 0..maker.random.one_of([1, 1, 1, 2, 2]) {
             let used = [levels.concat(), level.clone()].concat();
             level.push(maker.keys.pick_new(maker.random, domain, &used));
         }
         levels.push(level);
     }
     levels
+}
+
+/// The key of a new recovery record, mostly of the owner of a root on the phone.
+fn recovery_of_ladder(maker: &mut Maker, domain: u8) -> u32 {
+    let on_phone = |c: &&Certificate| c.is_root_of(domain) && c.place == 0;
+    let owners: Vec<u32> = maker
+        .records
+        .iter()
+        .filter(on_phone)
+        .map(|c| c.owner)
+        .collect();
+    let owner = maker.random.choose(&owners).unwrap_or(500);
+    let used: Vec<u32> = maker.records.iter().map(|c| c.key).collect();
+    let key = maker.keys.pick_new(maker.random, domain, &used);
+    let record = maker.recovery(domain, key, owner);
+    maker.records.push(record);
+    key
 }
 
 /// A record of a level, mostly verified by a key of the level before it.
@@ -96,13 +117,17 @@ fn rung(maker: &mut Maker, domain: u8, key: u32, levels: &[Vec<u32>], level: usi
         0 => maker.random.percent(92),
         _ => maker.random.percent(4),
     };
+    if domain != THIRD_PARTY && maker.random.percent(8) {
+        let owner = maker.root_owner(0);
+        return maker.recovery(domain, key, owner);
+    }
     if is_root {
         return maker.root(domain, key, place);
     }
     let verifying_key = match maker.random.below(20) {
-        0 => strange_key(maker, domain),
+        0 | 1 => strange_key(maker, domain),
         // A short cut, a ring, or another way of the same length.
-        1 | 2 => any_key(maker, &levels.concat()),
+        2 | 3 => any_key(maker, &levels.concat()),
         _ => any_key(maker, &levels[level.saturating_sub(1)]),
     };
     let mut record = maker.issued(domain, key, verifying_key, place);
@@ -121,16 +146,18 @@ fn strange_key(maker: &mut Maker, domain: u8) -> u32 {
     any_key(maker, &keys)
 }
 
-/// One thing or two that are wrong with a record; a root's date is not wrong, only past.
+/// One thing to three that are wrong with a record; a root's date is not wrong, only past.
 fn hurt(maker: &mut Maker, record: &mut Certificate) {
-    for _ in 0..maker.random.between(1, 2) {
+    for _ in 0..maker.random.between(1, 3) {
         match (record.kind, maker.random.below(3)) {
+            // Its date is never looked at, and nothing else of it may be otherwise.
+            (RECOVERY, _) => make_old(maker, record),
             (_, 0) => move_away(maker, record),
-            (ROOT, _) if record.domain == THIRD_PARTY && maker.random.percent(70) => {
+            (ROOT, _) if record.domain == THIRD_PARTY && maker.random.percent(60) => {
                 record.enabled = 0
             }
             (ROOT, _) => record.mark = 0,
-            (_, 1) => record.verifying_key = strange_key(maker, record.domain),
+            (ISSUED, 1) => record.verifying_key = strange_key(maker, record.domain),
             _ => make_old(maker, record),
         }
     }

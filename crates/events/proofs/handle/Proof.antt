@@ -54,6 +54,9 @@ withdraw-requires c κs = (search needs, low-actor _ (c .read14 .ensures) (c .be
 request-requires : tie.Need-request-requires
 request-requires c κs = (search needs, low-actor _ (c .read15 .ensures) (c .before .before .before .before .before .actor .ensures) (omega arith))
 
+replace-requires : tie.Need-replace-requires
+replace-requires c κs = (search needs, low-actor _ (c .read16 .ensures) (c .before .before .before .before .before .actor .ensures) (omega arith))
+
 returns-2 : tie.Need-returns-2
 returns-2 c =
     let d = c .before .before in
@@ -145,8 +148,14 @@ returns-16 c =
 
 returns-17 : tie.Need-returns-17
 returns-17 c =
+    let d = c .before .before in
+    let k = d .before .before .before in
+    read-of-kind _ (d .before .read16 .ensures) 16 (k .before .kind .ensures) (k .match .keys16) (d .replace .ensures)
+
+returns-18 : tie.Need-returns-18
+returns-18 c =
     let i = c .before .before .kind .ensures in
-    ⊎-elim (λ z. kind-zero i (z .keys16) (c .refused2 .ensures)) (λ r. no-such-kind i (r .rest) (c .refused2 .ensures)) (c .before .match .came)
+    ⊎-elim (λ z. kind-zero i (z .keys17) (c .refused2 .ensures)) (λ r. no-such-kind i (r .rest) (c .refused2 .ensures)) (c .before .match .came)
 
 pub handle-spec : {M : Type 1} → statement M
 handle-spec =
@@ -184,6 +193,8 @@ handle-spec =
     withdraw-requires
     (λ c κs. search needs)
     request-requires
+    (λ c κs. search needs)
+    replace-requires
     (λ c κs. search needs) (λ c. search needs)
     returns-2
     (λ c. search needs)
@@ -214,4 +225,6 @@ handle-spec =
     returns-15
     (λ c. search needs)
     returns-16
-    returns-17)
+    (λ c. search needs)
+    returns-17
+    returns-18)

@@ -43,10 +43,19 @@ returns-5 c =
     said (a .out .now) (a .at) (ap (λ (w : ℕ). reason-sentence w (a .id)) (arm .match .keys5)) (c .before .before .put-about5 .ensures)
 
 returns-6 : tie.Need-returns-6
+unfolding reason-sentence
 returns-6 c =
+    let arm = c .before .before .before .before .before .before in
+    let a = arm .before .before .args in
+    said (a .out .now) (a .at) (ap (λ (w : ℕ). reason-sentence w (a .id)) (arm .match .keys6)) (c .before .before .put-about6 .ensures)
+
+returns-7 : tie.Need-returns-7
+returns-7 c =
     let a = c .before .before .args in
     let r = c .match .rest in
-    said (a .out .now) (a .at) (reason-none (a .what) (a .id) (r .0 .0 .0 .0 .1) (r .0 .0 .0 .1) (r .0 .0 .1) (r .0 .1) (r .1)) (nothing (a .out .now) (a .at))
+    let first = r .0 .0 .0 in
+    said (a .out .now) (a .at) (reason-none (a .what) (a .id) (first .0 .0 .1) (first .0 .1) (first .1) (r .0 .0 .1) (r .0 .1) (r .1))
+    (nothing (a .out .now) (a .at))
 
 pub put-reason-spec : {M : Type 1} → statement M
 put-reason-spec =
@@ -55,7 +64,7 @@ put-reason-spec =
     (λ c. search needs) (λ c. search needs) (λ c κs. search needs) (λ c. search needs) (λ c. search needs)
     (λ c κs. search needs) (λ c. search needs) (λ c. search needs) (λ c κs. search needs) (λ c. search needs)
     (λ c. search needs) (λ c κs. search needs) (λ c. search needs) (λ c. search needs) (λ c κs. search needs)
-    (λ c. search needs)
+    (λ c. search needs) (λ c. search needs) (λ c κs. search needs) (λ c. search needs)
     returns
     (λ c. search needs)
     returns-2
@@ -65,4 +74,6 @@ put-reason-spec =
     returns-4
     (λ c. search needs)
     returns-5
-    returns-6)
+    (λ c. search needs)
+    returns-6
+    returns-7)

@@ -1,4 +1,5 @@
 use Prim.Native.Nat.{ℕ}
+use mathlib.Core.Bool.{false, not}
 use mathlib.Core.List.{List}
 use mathlib.Core.Path.{_≡_, ap, _∙_}
 use native.Mathlib.Omega.{arith}
@@ -10,7 +11,7 @@ use Rattle.rules.specs.Codes.{certificate-named}
 use Rattle.handling.proofs.Decided.{unformed}
 use Rattle.handling.proofs.CodeRows.{none, here, next, gives}
 use Rattle.certificates.proofs.NamedCertificate.{Onward, row-within, row-named, row-refuses, rest-refuses, none-refuses}
-use Rattle.certificates.proofs.CertificateCodes.{issued-row, mark-invalid-told}
+use Rattle.certificates.proofs.CertificateCodes.{root-row, mark-invalid-told}
 use borrow.Author.Needs.{needs}
 use Rattle.certificates.proofs.decisions.mark_invalid.Statement.{statement}
 use Rattle.certificates.proofs.decisions.mark_invalid.Tie as tie
@@ -20,7 +21,7 @@ start c = c .before .before .before .before
 
 -- c is what the rest of the rows are about
 abbrev rest : tie.After-on-certificate → Certificate → List Check
-rest d c = issued-row c
+rest d c = root-row c
 
 onward : (d : tie.After-on-certificate) → let p = decode (start d .args .s .now) in let e = start d .args .e in
     Onward 8 p e (rest d (certificate-named p (e .id))) (d .on-certificate .result)
@@ -44,7 +45,7 @@ said : (c : tie.After-certificate) {r : ℕ} → r ≡ first (rest (decided (on 
     → let a = start (decided (on c)) .args in r ≡ first (rest (decided (on c)) (certificate-named (decode (a .s .now)) (a .e .id)))
 said c q =
     let d = decided (on c) in
-    q ∙ ap (λ x. first (rest d x)) (row-named (onward d) (on c .slot .given .1) (c .certificate .ensures))
+    q ∙ ap (λ x. first (rest d x)) (row-named 8 false _ (start d .args .e) (d .on-certificate .ensures) (on c .slot .given .1) (c .certificate .ensures))
 
 returns : tie.Need-returns
 returns c = unformed _ _ _ _ (mark-invalid-told _ _ (omega arith)) (c .before .id-form .ensures _) (c .if1 .taken)
@@ -52,12 +53,12 @@ returns c = unformed _ _ _ _ (mark-invalid-told _ _ (omega arith)) (c .before .i
 certificate-requires : tie.Need-certificate-requires
 certificate-requires c κs =
     let t = c .before in
-    (start (decided t) .pre .0 .framed, row-within (onward (decided t)) (t .slot .given .1))
+    (start (decided t) .pre .0 .framed, row-within 8 false _ (start (decided t) .args .e) (decided t .on-certificate .ensures) (t .slot .given .1))
 
 returns-2 : tie.Need-returns-2
 returns-2 c =
     let x = c .before .before in
-    rest-refuses (onward (decided (on x))) (on x .slot .given .1) (λ z. omega (arith, z)) (said x (gives (here (eq-eqb _ 1 (c .if2 .taken)))))
+    rest-refuses (onward (decided (on x))) (on x .slot .given .1) (λ z. omega (arith, z)) (said x (gives (here (ap not (ne-eqb _ 0 (c .if2 .taken))))))
 
 returns-3 : tie.Need-returns-3
 returns-3 c = row-refuses (onward (c .before .before .before)) (c .before .code .given .1)
@@ -65,7 +66,7 @@ returns-3 c = row-refuses (onward (c .before .before .before)) (c .before .code 
 returns-4 : tie.Need-returns-4
 returns-4 c =
     let x = c .before .before in
-    none-refuses (onward (decided (on x))) (on x .slot .given .1) (said x (gives (next (ne-eqb _ 1 (c .if2 .left)) none)))
+    none-refuses (onward (decided (on x))) (on x .slot .given .1) (said x (gives (next (ap not (eq-eqb _ 0 (c .if2 .left))) none)))
 
 pub mark-invalid-spec : {M : Type 1} → statement M
 mark-invalid-spec =

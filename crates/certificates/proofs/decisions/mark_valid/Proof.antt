@@ -1,8 +1,9 @@
 use Prim.Native.Nat.{ℕ}
+use mathlib.Core.Bool.{false}
 use mathlib.Core.List.{List}
-use mathlib.Core.Path.{_≡_, sym, ap, _∙_}
+use mathlib.Core.Path.{_≡_, refl, sym, ap, _∙_}
 use native.Mathlib.Omega.{arith}
-use Rattle.records.specs.Phone.{decode}
+use Rattle.records.specs.Phone.{decode, certificate-at}
 use Rattle.records.specs.declared.Certificate.{Certificate}
 use Rattle.rules.specs.Words.{Check, first}
 use Rattle.rules.specs.Codes.{certificate-named}
@@ -32,39 +33,38 @@ onward d =
       rows = d .on-certificate .ensures;
     }
 
-abbrev on : tie.After-certificate → tie.After-slot
-on c = c .before .before
-
 abbrev decided : tie.After-slot → tie.After-on-certificate
 decided c = c .before .before
 
 -- what the rest of the rows say of the certificate in the slot
-said : (c : tie.After-certificate) {r : ℕ} → r ≡ first (rest (decided (on c)) (c .certificate .result))
-    → let a = start (decided (on c)) .args in r ≡ first (rest (decided (on c)) (certificate-named (decode (a .s .now)) (a .e .id)))
+said : (c : tie.After-slot) {r : ℕ} → let a = start (decided c) .args in
+    r ≡ first (rest (decided c) (certificate-at (decode (a .s .now)) (c .slot .given .0 .0)))
+    → r ≡ first (rest (decided c) (certificate-named (decode (a .s .now)) (a .e .id)))
 said c q =
-    let d = decided (on c) in
-    q ∙ ap (λ x. first (rest d x)) (row-named (onward d) (on c .slot .given .1) (c .certificate .ensures))
+    let d = decided c in
+    q ∙ ap (λ x. first (rest d x)) (row-named 7 false _ (start d .args .e) (d .on-certificate .ensures) (c .slot .given .1) refl)
 
 returns : tie.Need-returns
 returns c = unformed _ _ _ _ (mark-valid-told _ _ (omega arith)) (c .before .id-form .ensures _) (c .if1 .taken)
 
-certificate-requires : tie.Need-certificate-requires
-certificate-requires c κs =
+judge-marking-requires : tie.Need-judge-marking-requires
+judge-marking-requires c κs =
     let t = c .before in
-    (start (decided t) .pre .0 .framed, row-within (onward (decided t)) (t .slot .given .1))
+    let d = decided t in
+    (start d .pre .0 .framed, row-within 7 false _ (start d .args .e) (d .on-certificate .ensures) (t .slot .given .1))
 
 returns-2 : tie.Need-returns-2
 returns-2 c =
-    let x = c .before .before in
-    rest-refuses (onward (decided (on x))) (on x .slot .given .1) (c .if2 .taken) (said x (c .before .judge-marking .ensures))
+    let x = c .before .before .before in
+    rest-refuses (onward (decided x)) (x .slot .given .1) (c .if2 .taken) (said x (c .before .judge-marking .ensures))
 
 returns-3 : tie.Need-returns-3
 returns-3 c = row-refuses (onward (c .before .before .before)) (c .before .code .given .1)
 
 returns-4 : tie.Need-returns-4
 returns-4 c =
-    let x = c .before .before in
-    none-refuses (onward (decided (on x))) (on x .slot .given .1) (said x (sym (c .if2 .left) ∙ c .before .judge-marking .ensures))
+    let x = c .before .before .before in
+    none-refuses (onward (decided x)) (x .slot .given .1) (said x (sym (c .if2 .left) ∙ c .before .judge-marking .ensures))
 
 pub mark-valid-spec : {M : Type 1} → statement M
 mark-valid-spec =
@@ -73,8 +73,7 @@ mark-valid-spec =
     (λ c κs. search needs)
     returns
     (λ c κs. search needs) (λ c. search needs) (λ c. search needs)
-    certificate-requires
-    (λ c κs. search needs)
+    judge-marking-requires
     returns-2
     returns-3
     returns-4)

@@ -1,6 +1,6 @@
 use Prim.Native.Nat.{ℕ}
-use mathlib.Core.Bool.{not}
-use mathlib.Core.Path.{_≡_, ap, _∙_}
+use mathlib.Core.Bool.{Bool, not, _||_}
+use mathlib.Core.Path.{_≡_, sym, ap, _∙_}
 use native.Mathlib.Omega.{arith}
 use lib.ListN.{drop}
 use Rattle.records.specs.Phone.{decode}
@@ -28,7 +28,7 @@ start c = looked c .before .before
 abbrev Past : ℕ → tie.After-certificate → ℕ → Type 0
 Past n c r =
     let a = start c .args in
-    let l = certificate-rows (a .kind) (decode (a .s .now)) (a .e) in
+    let l = certificate-rows (a .kind) (a .nobody) (decode (a .s .now)) (a .e) in
     Gives r (drop n l) → r ≡ first l
 
 past-1 : (c : tie.After-certificate) {r : ℕ} → Past 1 c r
@@ -46,8 +46,13 @@ acts c =
     let a = start (c .before) .args in
     c .may-act .ensures ∙ ap (λ x. may-act (a .kind) (x .domain) (a .e .actor)) (named (c .before))
 
+-- what is told of the actor's test is told of the row
+barred : (c : tie.After-may-act) {v : Bool} → let a = start (c .before) .args in (not (c .may-act .result) || a .nobody) ≡ v
+    → (not (may-act (a .kind) (certificate-named (decode (a .s .now)) (a .e .id) .domain) (a .e .actor)) || a .nobody) ≡ v
+barred c h = ap (λ b. not b || start (c .before) .args .nobody) (sym (acts c)) ∙ h
+
 past-2 : (c : tie.Else1) {r : ℕ} → Past 2 (c .before .before) r
-past-2 c g = past-1 (c .before .before) (next (says (acts (c .before)) (c .if1 .left)) g)
+past-2 c g = past-1 (c .before .before) (next (barred (c .before) (c .if1 .left)) g)
 
 is-there : (c : tie.After-is-present) → let a = start (c .before .before .before) .args in
     c .is-present .result ≡ present (decode (a .s .now) .trust .seen) (certificate-named (decode (a .s .now)) (a .e .id))
@@ -66,7 +71,7 @@ may-act-requires c κs =
     omega (arith, ap (λ x. x .domain) (c .certificate .ensures), a .pre .0 .certificate-domains (c .before .before .slot .given .0 .0))
 
 returns : tie.Need-returns
-returns c = plan-refused _ _ (omega arith) (past-1 (c .before .before) (here (says (acts (c .before)) (c .if1 .taken))))
+returns c = plan-refused _ _ (omega arith) (past-1 (c .before .before) (here (barred (c .before) (c .if1 .taken))))
 
 returns-2 : tie.Need-returns-2
 returns-2 c = plan-refused _ _ (omega arith) (past-2 (c .before .before) (here (says (is-there (c .before)) (c .if2 .taken))))

@@ -25,9 +25,9 @@ of-domain t k d = all-below 5 (of-actor t k d)
 abbrev of-kind : List (List ℕ) → ℕ → Bool
 of-kind t k = all-below 4 (of-domain t k)
 
-by-table : (t : List (List ℕ)) → T (all-below 16 (of-kind t)) → (k d a : ℕ) → k < 16 → d < 4 → a < 5 → says t k d a ≡ may-act k d a
+by-table : (t : List (List ℕ)) → T (all-below 17 (of-kind t)) → (k d a : ℕ) → k < 17 → d < 4 → a < 5 → says t k d a ≡ may-act k d a
 by-table t r k d a hk hd ha =
-    let of-k = below 16 (of-kind t) r k hk in
+    let of-k = below 17 (of-kind t) r k hk in
     let of-d = below 4 (of-domain t k) of-k d hd in
     same-is (says t k d a) (may-act k d a) (below 5 (of-actor t k d) of-d a ha)
 
@@ -50,6 +50,7 @@ actors =
     ∷ (2 ∷ 2 ∷ 2 ∷ 2 ∷ [])
     ∷ (2 ∷ 2 ∷ 2 ∷ 2 ∷ [])
     ∷ (1 ∷ 1 ∷ 1 ∷ 1 ∷ [])
+    ∷ (0 ∷ 4 ∷ 8 ∷ 0 ∷ [])
     ∷ []
 
 returns : tie.Need-returns

@@ -1,0 +1,85 @@
+use Prim.Native.Nat.{ℕ}
+use mathlib.Core.Bool.{Bool, not}
+use mathlib.Core.List.{List, [], _∷_, _++_}
+use mathlib.Core.Path.{_≡_, sym, ap, _∙_}
+use Rattle.records.specs.Phone.{decode, certificate-at}
+use Rattle.records.specs.declared.Certificate.{Certificate}
+use Rattle.rules.specs.Words.{any, Check, _⇒_, first}
+use Rattle.rules.specs.Codes.{in-another, may-replace}
+use Rattle.handling.proofs.CodeRows.{none, here, next, rest, gives, says}
+use Rattle.handling.proofs.PlanLaws.{stands, decides}
+use Rattle.certificates.specs.MarkingRows.{marking-rows, replacing-rows}
+use borrow.Author.Needs.{needs}
+use Rattle.certificates.proofs.decisions.judge_replacing.Statement.{statement}
+use Rattle.certificates.proofs.decisions.judge_replacing.Tie as tie
+
+abbrev start : tie.After-certificate → tie.Start
+start c = c .before .before
+
+-- the root in the slot
+abbrev root : tie.After-certificate → Certificate
+root c = certificate-at (decode (start c .args .s .now)) (start c .args .slot)
+
+-- the rows of marking, and the one that is last
+abbrev marking : tie.After-certificate → List Check
+marking c = marking-rows (decode (start c .args .s .now)) (root c)
+
+abbrev last : tie.After-certificate → List Check
+last c = (not (may-replace (start c .args .e) (root c) (start c .args .r)) ⇒ 17) ∷ []
+
+abbrev rows : tie.After-certificate → List Check
+rows c = replacing-rows (decode (start c .args .s .now)) (start c .args .e) (root c) (start c .args .r)
+
+abbrev read : tie.Else1 → tie.After-certificate
+read c = c .before .before
+
+-- whether another domain has the key
+elsewhere : (c : tie.After-key-elsewhere) {v : Bool} → let a = start (c .before) .args in c .key-elsewhere .result ≡ v
+    → any (in-another (a .e .key) (root (c .before) .domain)) (decode (a .s .now) .trust .certificates) ≡ v
+elsewhere c h =
+    let a = start (c .before) .args in
+    let at = ap (λ x. any (in-another (a .e .key) (x .domain)) (decode (a .s .now) .trust .certificates)) (c .before .certificate .ensures) in
+    sym (c .key-elsewhere .ensures ∙ at) ∙ h
+
+-- r is what the rows give where those after the first give it
+past-1 : (c : tie.Else1) {r : ℕ} → r ≡ first (marking (read c) ++ last (read c)) → r ≡ first (rows (read c))
+past-1 c q = gives (next (elsewhere (c .before) (c .if1 .left)) (rest q))
+
+-- and where marking is not refused
+past-2 : (c : tie.Else2) {r : ℕ} → r ≡ first (last (read (c .before .before))) → r ≡ first (rows (read (c .before .before)))
+past-2 c q =
+    let k = c .before .before in
+    past-1 k (q ∙ decides (marking (read k)) (last (read k)) tt (c .before .judge-marking .ensures) (c .if2 .left))
+
+returns : tie.Need-returns
+returns c = gives (here (elsewhere (c .before) (c .if1 .taken)))
+
+returns-2 : tie.Need-returns-2
+returns-2 c =
+    let k = c .before .before in
+    past-1 k (stands (marking (read k)) (last (read k)) (c .before .judge-marking .ensures) (c .if2 .taken))
+
+-- whether the root may be replaced
+may : (c : tie.After-may-replace) → let k = read (c .before .before .before) in
+    c .may-replace .result ≡ may-replace (start k .args .e) (root k) (start k .args .r)
+may c =
+    let k = read (c .before .before .before) in
+    c .may-replace .ensures ∙ ap (λ x. may-replace (start k .args .e) x (start k .args .r)) (k .certificate .ensures)
+
+returns-3 : tie.Need-returns-3
+returns-3 c = past-2 (c .before .before) (gives (here (says (may (c .before)) (c .if3 .taken))))
+
+returns-4 : tie.Need-returns-4
+returns-4 c = past-2 (c .before .before) (gives (next (says (may (c .before)) (c .if3 .left)) none))
+
+pub judge-replacing-spec : {M : Type 1} → statement M
+judge-replacing-spec =
+    tie.close
+    (tie.spec
+    (λ c κs. search needs) (λ c κs. search needs)
+    returns
+    (λ c κs. search needs)
+    returns-2
+    (λ c κs. search needs)
+    returns-3
+    returns-4)

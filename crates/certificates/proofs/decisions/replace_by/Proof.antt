@@ -1,0 +1,79 @@
+use Prim.Native.Nat.{ℕ}
+use mathlib.Core.Bool.{Bool}
+use mathlib.Core.List.{List}
+use mathlib.Core.Path.{_≡_, refl, sym, ap, _∙_}
+use lib.Dec.{eqb}
+use Rattle.records.specs.Phone.{Phone, decode, certificate-at}
+use Rattle.records.specs.declared.Certificate.{Certificate}
+use Rattle.rules.specs.Words.{Check, first, first-place}
+use Rattle.rules.specs.Codes.{has-id, certificate-named}
+use Rattle.handling.specs.Plans.{certificate-rows}
+use Rattle.handling.proofs.Decided.{refused-first, refused-next, on-next}
+use Rattle.certificates.specs.MarkingRows.{replacing-rows}
+use Rattle.certificates.proofs.NamedCertificate.{row-within, row-named}
+use borrow.Author.Needs.{needs}
+use Rattle.certificates.proofs.decisions.replace_by.Statement.{statement}
+use Rattle.certificates.proofs.decisions.replace_by.Tie as tie
+
+abbrev start : tie.After-on-certificate → tie.Start
+start c = c .before .before .before
+
+abbrev phone : tie.After-on-certificate → Phone
+phone d = decode (start d .args .s .now)
+
+-- "to nobody where either record is a third party one"
+abbrev nobody : tie.After-on-certificate → Bool
+nobody d = eqb (start d .args .r .domain) 3
+
+-- the rows on the certificate, and those after them, where c is the certificate
+abbrev on-it : tie.After-on-certificate → List Check
+on-it d = certificate-rows 16 (nobody d) (phone d) (start d .args .e)
+
+abbrev after : tie.After-on-certificate → Certificate → List Check
+after d c = replacing-rows (phone d) (start d .args .e) c (start d .args .r)
+
+abbrev place : tie.After-on-certificate → ℕ
+place d = first-place (has-id (start d .args .e .id)) (phone d .trust .certificates)
+
+abbrev decided : tie.After-slot → tie.After-on-certificate
+decided c = c .before .before
+
+-- what the rows say of the certificate in the slot they say of the one that is named
+said : (c : tie.After-slot) {r : ℕ} → let d = decided c in
+    r ≡ first (after d (certificate-at (phone d) (c .slot .given .0 .0))) → r ≡ first (after d (certificate-named (phone d) (start d .args .e .id)))
+said c q =
+    let d = decided c in
+    q ∙ ap (λ x. first (after d x)) (row-named 16 (nobody d) (phone d) (start d .args .e) (d .on-certificate .ensures) (c .slot .given .1) refl)
+
+judge-replacing-requires : tie.Need-judge-replacing-requires
+judge-replacing-requires c κs =
+    let t = c .before in
+    let d = decided t in
+    (start d .pre .0 .framed, row-within 16 (nobody d) (phone d) (start d .args .e) (d .on-certificate .ensures) (t .slot .given .1))
+
+returns : tie.Need-returns
+returns c =
+    let x = c .before .before .before in
+    let d = decided x in
+    refused-next (on-it d) _ (place d) (d .on-certificate .ensures) tt (x .slot .given .1) (c .if1 .taken) (said x (c .before .judge-replacing .ensures))
+
+returns-2 : tie.Need-returns-2
+returns-2 c =
+    let d = c .before .before .before in
+    refused-first (on-it d) _ (place d) (d .on-certificate .ensures) (c .before .code .given .1)
+
+returns-3 : tie.Need-returns-3
+returns-3 c =
+    let x = c .before .before .before in
+    let d = decided x in
+    on-next (on-it d) _ (place d) (d .on-certificate .ensures) tt (x .slot .given .1) (said x (sym (c .if1 .left) ∙ c .before .judge-replacing .ensures))
+
+pub replace-by-spec : {M : Type 1} → statement M
+replace-by-spec =
+    tie.close
+    (tie.spec
+    (λ c κs. search needs) (λ c. search needs) (λ c. search needs)
+    judge-replacing-requires
+    returns
+    returns-2
+    returns-3)

@@ -1,0 +1,10 @@
+use borrow.Author.Needs.{needs}
+use Rattle.terms.proofs.FormTests.{replace-form-is}
+use Rattle.terms.proofs.forms.replace_form.Statement.{statement}
+use Rattle.terms.proofs.forms.replace_form.Tie as tie
+
+returns : tie.Need-returns
+returns c = λ p. replace-form-is p _
+
+pub replace-form-spec : {M : Type 1} → statement M
+replace-form-spec = tie.close (tie.spec (λ c. search needs) (λ c. search needs) (λ c. search needs) returns)
