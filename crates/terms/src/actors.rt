@@ -5,45 +5,53 @@ ghost use mathlib.Core.Path.{_≡_};
 ghost use Rattle.rules.specs.Actors.{may-act};
 
 // The actors, a bit for each.
-const DEVICE: u8 = 1 << Event::DEVICE;
+const DEVICE: u32 = 1 << Event::DEVICE;
 
-const USER: u8 = 1 << Event::USER;
+const USER: u32 = 1 << Event::USER;
 
-const OPERATOR: u8 = 1 << Event::OPERATOR;
+const OPERATOR: u32 = 1 << Event::OPERATOR;
 
-const MANUFACTURER: u8 = 1 << Event::MANUFACTURER;
+const MANUFACTURER: u32 = 1 << Event::MANUFACTURER;
 
-const ADMINISTRATOR: u8 = 1 << Event::ADMINISTRATOR;
+const ADMINISTRATOR: u32 = 1 << Event::ADMINISTRATOR;
 
 // "actors 1–4"
-const PEOPLE: u8 = USER | OPERATOR | MANUFACTURER | ADMINISTRATOR;
+const PEOPLE: u32 = USER | OPERATOR | MANUFACTURER | ADMINISTRATOR;
 
-// The actors that may do an event: a row for each kind from 0 on, by the domains 0 to 3.
-const ACTORS: [[u8; 4]; 17] = [
+// A row has eight bits for each domain from 0 on: the same actors in all of them, or those of domain 3.
+const ANYWHERE: u32 = 0x0101_0101;
+
+const THIRD_PARTY: u32 = 0x0100_0000;
+
+// In domain 1 the operator, in domain 2 the manufacturer.
+const OWN: u32 = (OPERATOR << 8) | (MANUFACTURER << 16);
+
+// The actors that may do an event: a row for each kind from 0 on. A row is one number, since a kind that is known then leaves no table.
+const ACTORS: [u32; 17] = [
     // No kind is 0.
-    [0; 4],
+    0,
     // Clock, card in, card out, power up.
-    [DEVICE; 4],
-    [DEVICE; 4],
-    [DEVICE; 4],
-    [DEVICE; 4],
+    DEVICE * ANYWHERE,
+    DEVICE * ANYWHERE,
+    DEVICE * ANYWHERE,
+    DEVICE * ANYWHERE,
     // A certificate: install, delete, mark valid, mark invalid.
-    [0, OPERATOR, MANUFACTURER, PEOPLE],
-    [0, OPERATOR, MANUFACTURER, USER | ADMINISTRATOR],
-    [0, OPERATOR, MANUFACTURER, ADMINISTRATOR],
-    [0, OPERATOR, MANUFACTURER, ADMINISTRATOR],
+    OWN | PEOPLE * THIRD_PARTY,
+    OWN | (USER | ADMINISTRATOR) * THIRD_PARTY,
+    OWN | ADMINISTRATOR * THIRD_PARTY,
+    OWN | ADMINISTRATOR * THIRD_PARTY,
     // Message.
-    [ADMINISTRATOR; 4],
+    ADMINISTRATOR * ANYWHERE,
     // An executable: install, delete, verify.
-    [PEOPLE; 4],
-    [PEOPLE; 4],
-    [DEVICE; 4],
+    PEOPLE * ANYWHERE,
+    PEOPLE * ANYWHERE,
+    DEVICE * ANYWHERE,
     // A permission: give, withdraw; request.
-    [USER; 4],
-    [USER; 4],
-    [DEVICE; 4],
+    USER * ANYWHERE,
+    USER * ANYWHERE,
+    DEVICE * ANYWHERE,
     // Replace: nobody's where the root is a third party's.
-    [0, OPERATOR, MANUFACTURER, 0],
+    OWN,
 ];
 
 pub fn may_act(kind: u8, domain: u8, actor: u8) -> bool
@@ -51,6 +59,5 @@ pub fn may_act(kind: u8, domain: u8, actor: u8) -> bool
     ensures { λ r. ⌜ r ≡ may-act kind domain actor ⌝ }
 {
     let k = kind as usize;
-    let d = domain as usize;
-    (ACTORS[k][d] >> actor) & 1 == 1
+    (ACTORS[k] >> (8 * domain + actor)) & 1 == 1
 }
