@@ -15,6 +15,8 @@ const PHONE_OPERATOR_ROOT: u32 = 1500;
 const RECOVERY_KEY: u32 = 60_002;
 const ROOT_IDS: [u16; 4] = [1, 2, 3, 4];
 const OWNER: u32 = 501;
+/// When everything runs out that is not damaged.
+const EXPIRY: u32 = 100_000;
 
 /// A certificate, in the order of its fields.
 #[derive(Clone, Copy)]
@@ -50,11 +52,11 @@ fn put32(to: &mut Vec<u8>, number: u32) {
 }
 
 fn root(id: u16, place: u16, domain: u8, mark: u8, key: u32) -> Certificate {
-    Certificate { id, place, kind: 0, domain, mark, key, by: 0, owner: OWNER, expiry: 0 }
+    Certificate { id, place, kind: 0, domain, mark, key, by: 0, owner: OWNER, expiry: EXPIRY }
 }
 
 fn issued(id: u16, place: u16, domain: u8, key: u32, by: u32) -> Certificate {
-    Certificate { id, place, kind: 1, domain, mark: 1, key, by, owner: OWNER, expiry: 100_000 }
+    Certificate { id, place, kind: 1, domain, mark: 1, key, by, owner: OWNER, expiry: EXPIRY }
 }
 
 /// Four roots, and chains of two, three and four links in all three domains under them; two slots are free.
@@ -208,7 +210,7 @@ fn replace(recovery: u16) -> Vec<u8> {
     let mut all = event(16, 3, ROOT_IDS[2], recovery, 60_001);
     all[12..16].copy_from_slice(&RECOVERY_KEY.to_be_bytes());
     all[16..20].copy_from_slice(&OWNER.to_be_bytes());
-    all[20..24].copy_from_slice(&100_000u32.to_be_bytes());
+    all[20..24].copy_from_slice(&EXPIRY.to_be_bytes());
     all
 }
 
@@ -216,7 +218,7 @@ fn install_certificate(id: u16) -> Vec<u8> {
     let mut all = event(5, 1, id, 0, 60_000);
     all[6..8].copy_from_slice(&[1, 3]);
     all[12..16].copy_from_slice(&THIRD_PARTY_ROOT.to_be_bytes());
-    all[20..24].copy_from_slice(&100_000u32.to_be_bytes());
+    all[20..24].copy_from_slice(&EXPIRY.to_be_bytes());
     all
 }
 
@@ -421,12 +423,12 @@ impl Dice {
 const FIELDS: [&[usize]; 4] = [&[0, 2, 4, 5, 6, 7, 8, 12, 16, 20, 24], &[0, 2, 4, 8], &[0, 2, 3, 4, 8, 12], &[0, 1, 2, 3, 4]];
 
 /// An image damaged in one to three places: a byte changed, a record or a field of it written over another, a certificate turned
-/// into a recovery key, or the end moved.
+/// into a recovery key, roots that run out about now, or the end moved.
 pub fn damaged(which: usize, slots: usize, dice: &mut Dice) -> Vec<u8> {
     let frame = Frame::of(slots);
     let mut image = image(which, slots);
     for _ in 0..1 + dice.below(3) {
-        match dice.below(17) {
+        match dice.below(18) {
             0 => image.truncate(dice.below(image.len() + 1)),
             1 => image.push(dice.below(2) as u8),
             2 => poke(&mut image, dice.below(40), dice.below(4) as u8),
@@ -434,6 +436,7 @@ pub fn damaged(which: usize, slots: usize, dice: &mut Dice) -> Vec<u8> {
             4..=6 => poke(&mut image, dice.below(frame.total), dice.below(4) as u8),
             7 => copy_root(&mut image, &frame, dice),
             16 => make_recovery(&mut image, &frame, dice),
+            17 => end_roots(&mut image, &frame, dice),
             way => {
                 let table = [0, 0, 0, 0, 1, 2, 2, 3][way - 8];
                 copy_field(&mut image, &frame, table, dice);
@@ -479,6 +482,25 @@ fn make_recovery(image: &mut [u8], frame: &Frame, dice: &mut Dice) {
         3 => image[at + 7] = 0,
         4 => image[at + 15] = 1,
         _ => (),
+    }
+}
+
+/// Roots of the full phone that are past their dates by a second or in their last one, perhaps marked all the same: where the date
+/// is past, a mark breaks no rule. Often no executable has a domain any more that needs them.
+fn end_roots(image: &mut [u8], frame: &Frame, dice: &mut Dice) {
+    if frame.table_at > image.len() {
+        return;
+    }
+    for _ in 0..1 + dice.below(3) {
+        let at = frame.certificate(dice.below(4));
+        let expiry = CLOCK - dice.below(2) as u32;
+        image[at + 20..at + 24].copy_from_slice(&expiry.to_be_bytes());
+        if dice.below(2) == 0 {
+            image[at + 6] = 1;
+        }
+    }
+    if dice.below(4) != 0 {
+        (0..frame.slots).for_each(|slot| image[frame.executable(slot) + 2] = 0);
     }
 }
 

@@ -70,6 +70,7 @@ mod event {
     pub const KEY: usize = 8;
     pub const VERIFYING_KEY: usize = 12;
     pub const OWNER: usize = 16;
+    pub const EXPIRY: usize = 20;
     pub const LIST: usize = 8;
     pub const MOST_LISTED: u8 = 8;
 }
@@ -106,6 +107,7 @@ const NO_FREE_SLOT: u8 = 14;
 const NEVER_GRANTED: u8 = 15;
 const NO_PERMISSION: u8 = 16;
 const NO_RECOVERY_KEY: u8 = 17;
+const PAST_ITS_DATE: u8 = 18;
 
 /// Who may act, by event kind and domain: one bit for each actor, the device in the lowest.
 const MAY_ACT: [[u8; 4]; 17] = {
@@ -260,8 +262,9 @@ fn operator_of(cards: &[u8], number: u16) -> Option<u32> {
     Some(u32_at(card, card::OPERATOR))
 }
 
+/// What an operator or a manufacturer root needs to be valid, but for its date.
 #[inline]
-fn is_valid_root(record: &[u8], domain: u8) -> bool {
+fn is_marked_root(record: &[u8], domain: u8) -> bool {
     record[certificate::MARK] == 1
         && record[certificate::DOMAIN] == domain
         && record[certificate::KIND] == ROOT
@@ -292,16 +295,27 @@ impl Now {
         place == 0 || place == self.card
     }
 
+    /// Through the second that the record names.
+    #[inline]
+    fn is_in_date(self, record: &[u8]) -> bool {
+        self.clock <= u32_at(record, certificate::EXPIRY)
+    }
+
+    #[inline]
+    fn is_valid_root(self, record: &[u8], domain: u8) -> bool {
+        is_marked_root(record, domain) && self.is_in_date(record)
+    }
+
     /// A trusted root, or an issued record that lacks only a good verifier. Never a free slot, and
     /// never a recovery key.
     #[inline]
     fn can_be_link(self, record: &[u8]) -> bool {
         let counts = match record[certificate::KIND] {
             ROOT => record[certificate::MARK] == 1 && record[certificate::ENABLED] == 1,
-            ISSUED => self.clock <= u32_at(record, certificate::EXPIRY),
+            ISSUED => true,
             _ => false,
         };
-        counts && self.is_present(record)
+        counts && self.is_in_date(record) && self.is_present(record)
     }
 }
 
@@ -501,7 +515,7 @@ fn check(image: &[u8]) -> Result<(), Fault> {
     let (cards, rest) = rest.split_at(executables_at - cards_at);
     let (executables, table) = rest.split_at(table_at - executables_at);
     let now = Now::of(header);
-    check_certificates(certificates, cards, now.card)?;
+    check_certificates(certificates, cards, now)?;
     if let Some(row) = first_bad_row(table) {
         return Err(Fault::at(6, table_at + row * action::SIZE));
     }
@@ -527,7 +541,7 @@ fn first_bad_card(cards: &[u8]) -> Option<usize> {
 
 /// Rules I2 to I5. One pass over the certificates meets their faults slot by slot and not rule by
 /// rule, so it keeps the one that counts and goes on; only I2 has no rule before it to wait for.
-fn check_certificates(certificates: &[u8], cards: &[u8], present: u16) -> Result<(), Fault> {
+fn check_certificates(certificates: &[u8], cards: &[u8], now: Now) -> Result<(), Fault> {
     let mut found: Option<Fault> = None;
     let mut note = |fault| {
         if found.map_or(true, |earlier| fault < earlier) {
@@ -538,8 +552,8 @@ fn check_certificates(certificates: &[u8], cards: &[u8], present: u16) -> Result
         let cards_at = header::SIZE + certificates.len();
         note(Fault::at(3, cards_at + index * card::SIZE));
     }
-    let present_index = card_index(cards, present);
-    if present != 0 && present_index.is_none() {
+    let present_index = card_index(cards, now.card);
+    if now.card != 0 && present_index.is_none() {
         note(Fault::at(3, header::CARD));
     }
     let operator_on = |index| u32_at(cards, index * card::SIZE + card::OPERATOR);
@@ -582,7 +596,7 @@ fn check_certificates(certificates: &[u8], cards: &[u8], present: u16) -> Result
         count += 1;
 
         let is_root = record[certificate::KIND] == ROOT;
-        let is_valid = is_root && record[certificate::MARK] == 1;
+        let is_valid = now.is_valid_root(record, domain);
         let owner = u32_at(record, certificate::OWNER);
         match u16_at(record, certificate::PLACE) {
             0 => {
@@ -783,10 +797,11 @@ impl<'a> Phone<'a> {
             return DONE;
         }
         set_u32(self.header, header::CLOCK, new);
-        // Time breaks a chain only through an issued record that runs out between the two clocks.
+        // Time breaks a chain only through a record that runs out between the two clocks. Whose date
+        // passes keeps its mark.
         let runs_out = certificates_in(self.certificates).any(|record| {
             let expiry = u32_at(record, certificate::EXPIRY);
-            old <= expiry && expiry < new && record[certificate::KIND] == ISSUED
+            old <= expiry && expiry < new && record[certificate::KIND] != RECOVERY
         });
         if runs_out {
             self.settle();
@@ -808,7 +823,7 @@ impl<'a> Phone<'a> {
             return Err(CARD_OUT_OF_TURN);
         }
         set_u16(self.header, header::CARD, number);
-        // More records become present, so only a mark that falls can break a chain.
+        // More records become present, so only the mark of a valid root that falls can break a chain.
         if self.apply_card_rule(number, operator) {
             self.settle();
         }
@@ -838,14 +853,14 @@ impl<'a> Phone<'a> {
         check_actor(event, 0)?;
         let old = u16_at(self.header, header::CARD);
         let new = u16_at(event, event::SECOND);
-        // With the same card, or again none, marks and presence are already what they would become.
-        if new == old {
-            return DONE;
-        }
         let mut chains_may_break = false;
         if new != 0 {
             let operator = operator_of(self.cards, new).ok_or(UNKNOWN_CARD)?;
+            // With the same card I5 leaves nothing to do but for marks that have outlived their dates.
             chains_may_break = self.apply_card_rule(new, operator);
+        }
+        if new == old {
+            return DONE;
         }
         chains_may_break = chains_may_break || old != 0 && self.has_certificate_on(old);
         set_u16(self.header, header::CARD, new);
@@ -947,29 +962,18 @@ impl<'a> Phone<'a> {
                 return Err(OTHER_OPERATOR);
             }
         }
-        // I5 leaves a root that is valid already no rival, and nothing has to change.
-        if record[certificate::MARK] == 1 {
-            return DONE;
-        }
-        let mut displaced = None;
-        let has_rival = match domain {
-            OPERATOR => {
-                let (on_phone, is_on_card) = valid_operator_roots(self.certificates, now.card);
-                displaced = on_phone;
-                is_on_card || place == 0 && on_phone.is_some()
+        // I5 leaves a root that is valid already no rival.
+        if !now.is_valid_root(record, domain) {
+            if self.has_rival(domain, place, now) {
+                return Err(ANOTHER_IS_VALID);
             }
-            MANUFACTURER => {
-                certificates_in(self.certificates).any(|other| is_valid_root(other, MANUFACTURER))
+            if !now.is_in_date(record) {
+                return Err(PAST_ITS_DATE);
             }
-            _ => false,
-        };
-        if has_rival {
-            return Err(ANOTHER_IS_VALID);
         }
         self.certificates[at + certificate::MARK] = 1;
-        // One more trusted root breaks no chain; only the phone's root that gives way to it may.
-        if let Some(on_phone) = displaced {
-            self.certificates[on_phone + certificate::MARK] = 0;
+        // One more trusted root breaks no chain; only the phone's root that gives way to a card's may.
+        if domain == OPERATOR && place != 0 && self.unmark_on_phone(now, |_| true) {
             self.settle();
         }
         DONE
@@ -1167,9 +1171,9 @@ impl<'a> Phone<'a> {
         {
             return Err(OTHER_OPERATOR);
         }
-        let was_valid = record[certificate::MARK] == 1;
+        let was_valid = now.is_valid_root(record, domain);
         // I5 leaves a root that is valid already no rival.
-        if !was_valid && self.has_rival(domain, place, now.card) {
+        if !was_valid && self.has_rival(domain, place, now) {
             return Err(ANOTHER_IS_VALID);
         }
         let recovery_fits = recovery[certificate::KIND] == RECOVERY
@@ -1180,6 +1184,10 @@ impl<'a> Phone<'a> {
             && u32_at(event, event::VERIFYING_KEY) == u32_at(recovery, certificate::KEY);
         if !recovery_fits {
             return Err(NO_RECOVERY_KEY);
+        }
+        // The date that it brings, and neither the root's own nor the recovery record's.
+        if u32_at(event, event::EXPIRY) < now.clock {
+            return Err(PAST_ITS_DATE);
         }
         let had_the_key = u32_at(record, certificate::KEY) == key;
         let record = &mut self.certificates[at..at + certificate::SIZE];
@@ -1194,17 +1202,18 @@ impl<'a> Phone<'a> {
         DONE
     }
 
-    /// Whether another root is valid where one without a mark would become so.
+    /// Whether another root is valid where one that is not would become so.
     #[inline]
-    fn has_rival(&self, domain: u8, place: u16, card: u16) -> bool {
+    fn has_rival(&self, domain: u8, place: u16, now: Now) -> bool {
+        let mut valid_roots =
+            certificates_in(self.certificates).filter(|other| now.is_valid_root(other, domain));
         match domain {
-            OPERATOR => {
-                let (on_phone, is_on_card) = valid_operator_roots(self.certificates, card);
-                is_on_card || place == 0 && on_phone.is_some()
+            // The place is present: on a card its own roots count, on the phone both.
+            OPERATOR if place != 0 => {
+                valid_roots.any(|other| u16_at(other, certificate::PLACE) == place)
             }
-            MANUFACTURER => {
-                certificates_in(self.certificates).any(|other| is_valid_root(other, MANUFACTURER))
-            }
+            OPERATOR => valid_roots.any(|other| now.is_present(other)),
+            MANUFACTURER => valid_roots.next().is_some(),
             _ => false,
         }
     }
@@ -1245,20 +1254,44 @@ impl<'a> Phone<'a> {
         certificates_in(self.certificates).any(|record| u16_at(record, certificate::PLACE) == card)
     }
 
-    /// Takes the mark of the phone's operator root where the card that came in does not go with it.
-    /// I5 allows one valid root on the phone, so at most one has to change. Says whether it did.
+    /// Takes the marks of the phone's operator roots where the card that came in does not go with
+    /// them. Whether the card has a valid root goes by its date; on the phone every mark counts, past
+    /// its date or not. Says whether a valid one fell.
     #[inline]
     fn apply_card_rule(&mut self, card: u16, operator: u32) -> bool {
-        let (on_phone, is_on_card) = valid_operator_roots(self.certificates, card);
-        match on_phone {
-            Some(at)
-                if is_on_card || u32_at(self.certificates, at + certificate::OWNER) != operator =>
-            {
-                self.certificates[at + certificate::MARK] = 0;
-                true
+        let now = Now {
+            card,
+            ..Now::of(self.header)
+        };
+        let mut is_marked_on_phone = false;
+        let mut is_valid_on_card = false;
+        for record in certificates_in(self.certificates) {
+            if is_marked_root(record, OPERATOR) {
+                match u16_at(record, certificate::PLACE) {
+                    0 => is_marked_on_phone = true,
+                    place => is_valid_on_card |= place == card && now.is_in_date(record),
+                }
             }
-            _ => false,
         }
+        is_marked_on_phone
+            && self.unmark_on_phone(now, |owner| is_valid_on_card || owner != operator)
+    }
+
+    /// Takes the marks of the operator roots on the phone of such owners, and says whether one of them
+    /// was valid: only that breaks chains. I5 allows one valid root there, and any number past their dates.
+    #[inline]
+    fn unmark_on_phone(&mut self, now: Now, falls: impl Fn(u32) -> bool) -> bool {
+        let mut was_one_valid = false;
+        for record in self.certificates.chunks_exact_mut(certificate::SIZE) {
+            if is_marked_root(record, OPERATOR)
+                && u16_at(record, certificate::PLACE) == 0
+                && falls(u32_at(record, certificate::OWNER))
+            {
+                was_one_valid |= now.is_in_date(record);
+                record[certificate::MARK] = 0;
+            }
+        }
+        was_one_valid
     }
 
     /// Takes the domain of every executable that no longer chains to it.
@@ -1307,20 +1340,4 @@ fn find_executable(executables: &mut [u8], id: u16) -> Result<&mut [u8], u8> {
 #[inline]
 fn is_third_party_root(record: &[u8]) -> bool {
     record[certificate::DOMAIN] == THIRD_PARTY && record[certificate::KIND] == ROOT
-}
-
-/// Where the phone's valid operator root stands, and whether the card has one; I5 allows one each.
-#[inline]
-fn valid_operator_roots(certificates: &[u8], card: u16) -> (Option<usize>, bool) {
-    let mut on_phone = None;
-    let mut is_on_card = false;
-    for (slot, record) in certificates_in(certificates).enumerate() {
-        if is_valid_root(record, OPERATOR) {
-            match u16_at(record, certificate::PLACE) {
-                0 => on_phone = Some(slot * certificate::SIZE),
-                place => is_on_card |= place == card,
-            }
-        }
-    }
-    (on_phone, is_on_card)
 }

@@ -6,7 +6,7 @@
 use crate::bench::{event_records, split_stream};
 use crate::chain::{good_within, Chain, Trust, MOST_LINKS};
 use crate::events::step;
-use crate::phone::{Certificate, Phone, ISSUED, RECOVERY};
+use crate::phone::{Certificate, Phone, ISSUED, RECOVERY, ROOT};
 use crate::refusal::{open, Refusal};
 use crate::why::{explain, phone_after, Answer, Reason};
 
@@ -84,6 +84,7 @@ pub fn serving(phone: &Phone, domain: u8, key: u32, links: u8) -> Vec<Certificat
 /// Every reason that is true of a record, in the order in which they are asked.
 pub fn true_reasons(phone: &Phone, record: &Certificate) -> Vec<Reason> {
     let is_issued = record.kind == ISSUED;
+    let has_a_date = is_issued || record.kind == ROOT;
     let signers = serving(phone, record.domain, record.verifying_key, MOST_LINKS - 1);
     let asked = [
         (Reason::RecoveryKey, record.kind == RECOVERY),
@@ -95,7 +96,7 @@ pub fn true_reasons(phone: &Phone, record: &Certificate) -> Vec<Reason> {
         (Reason::Disabled, record.enabled != 1),
         (
             Reason::PastItsDate,
-            is_issued && record.expiry < phone.clock,
+            has_a_date && record.expiry < phone.clock,
         ),
         (Reason::NoGoodSigner, is_issued && signers.is_empty()),
     ];

@@ -2,7 +2,8 @@
 //!
 //! Follows 01, "Chains". The recursion is the definition's own: the records good within n
 //! are found from the records good within n - 1, and within 0 nothing is good. By 02, "Recovery
-//! keys", a recovery record is neither a trusted root nor a link: it is never good.
+//! keys", a recovery record is neither a trusted root nor a link: it is never good. By 02, "Roots
+//! have a date as well", every link has to be in date, the root included.
 
 use crate::phone::{Certificate, Phone, ISSUED, ROOT};
 
@@ -34,9 +35,13 @@ pub fn good_within(phone: &Phone, links: u8) -> Vec<bool> {
         .collect()
 }
 
-/// A present root with mark 1 and enabled 1. Its expiry is not looked at.
+/// A present root in date with mark 1 and enabled 1.
 pub fn is_trusted_root(phone: &Phone, record: &Certificate) -> bool {
-    record.kind == ROOT && phone.is_present(record.place) && record.mark == 1 && record.enabled == 1
+    record.kind == ROOT
+        && phone.is_present(record.place)
+        && record.mark == 1
+        && record.enabled == 1
+        && record.is_in_date(phone.clock)
 }
 
 /// A present issued record in date whose verifying key is the key of a good record of its domain.
@@ -47,7 +52,7 @@ fn is_well_issued(phone: &Phone, record: &Certificate, good: &[bool]) -> bool {
 
 /// What a link above the root has to be, whoever has signed it.
 pub fn is_issued_in_date(phone: &Phone, record: &Certificate) -> bool {
-    record.kind == ISSUED && phone.is_present(record.place) && phone.clock <= record.expiry
+    record.kind == ISSUED && phone.is_present(record.place) && record.is_in_date(phone.clock)
 }
 
 /// Every record with the key is asked, since a bad twin may stand before a good one.

@@ -1,8 +1,8 @@
-//! Events: the record, the codes 2 to 17 as one ordered list of tests, and the effects.
+//! Events: the record, the codes 2 to 18 as one ordered list of tests, and the effects.
 //!
-//! Follows 01, "Events" and "What an event is told", and 02 for what goes with code 1 and for
-//! recovery keys. Each test says when its code applies; the answer is the lowest that applies. A
-//! test whose record is missing does not apply.
+//! Follows 01, "Events" and "What an event is told", and 02 for what goes with code 1, for recovery
+//! keys and for the dates of roots. Each test says when its code applies; the answer is the lowest
+//! that applies. A test whose record is missing does not apply.
 
 use crate::chain::Trust;
 use crate::phone::{
@@ -31,7 +31,7 @@ pub const REPLACE: u8 = 16;
 pub const LAST_KIND: u8 = REPLACE;
 
 /// Codes go from 0 to this one.
-pub const LAST_CODE: u8 = 17;
+pub const LAST_CODE: u8 = 18;
 
 pub const DEVICE: u8 = 0;
 pub const USER: u8 = 1;
@@ -204,6 +204,7 @@ pub fn code_of(phone: &Phone, event: &Event) -> u8 {
         (15, asks_for_what_never_is),
         (16, asks_without_permission),
         (17, has_no_fitting_recovery_key),
+        (18, makes_valid_what_is_past_its_date),
     ];
     tests
         .iter()
@@ -462,7 +463,7 @@ fn is_about_no_fitting_root(phone: &Phone, event: &Event) -> bool {
     }
 }
 
-/// Code 13.
+/// Code 13. Another root that is past its date stands in nobody's way.
 fn marks_second_valid_root(phone: &Phone, event: &Event) -> bool {
     if !matches!(event.kind, MARK_VALID | REPLACE) {
         return false;
@@ -475,7 +476,8 @@ fn marks_second_valid_root(phone: &Phone, event: &Event) -> bool {
     }
     phone
         .occupied_certificates()
-        .filter(|other| other.id != record.id && other.is_valid_root_of(record.domain))
+        .filter(|other| other.id != record.id)
+        .filter(|other| other.is_valid_root_of(record.domain, phone.clock))
         .any(|other| match (record.domain, record.place) {
             (MANUFACTURER, _) => true,
             (OPERATOR, 0) => phone.is_present(other.place),
@@ -531,9 +533,23 @@ fn has_no_fitting_recovery_key(phone: &Phone, event: &Event) -> bool {
         || event.verifying_key != recovery.key
 }
 
+/// Code 18. A mark leaves a root the date that it has; a replace brings another.
+fn makes_valid_what_is_past_its_date(phone: &Phone, event: &Event) -> bool {
+    let expiry = match event.kind {
+        MARK_VALID => match phone.certificate(event.id) {
+            Some(record) if record.kind == ROOT => record.expiry,
+            _ => return false,
+        },
+        REPLACE => event.expiry,
+        _ => return false,
+    };
+    expiry < phone.clock
+}
+
 /// The effect of an event that no code refuses.
 fn take_effect(phone: &mut Phone, event: &Event) {
     match event.kind {
+        // Marks stay as they are, whichever dates pass.
         CLOCK => phone.clock = event.key,
         CARD_IN | POWER_UP => {
             phone.card_present = event.second;
@@ -556,14 +572,15 @@ fn take_effect(phone: &mut Phone, event: &Event) {
     }
 }
 
-/// What a card that has just come asks of the operator roots on the phone.
+/// What a card that has just come asks of the operator roots on the phone. Whether the card has a
+/// valid one goes by its date; on the phone every mark is touched, those past their date too.
 fn apply_card_rule(phone: &mut Phone) {
     let Some(card) = phone.present_card().copied() else {
         return;
     };
     let card_has_valid_root = phone
         .occupied_certificates()
-        .any(|c| c.is_valid_root_of(OPERATOR) && c.place == card.number);
+        .any(|c| c.is_valid_root_of(OPERATOR, phone.clock) && c.place == card.number);
     for root in operator_roots_on_phone(phone) {
         if card_has_valid_root || root.owner != card.operator {
             root.mark = 0;

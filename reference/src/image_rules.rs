@@ -1,7 +1,8 @@
 //! The image rules I1 to I8, one function for each, asked in the order of the paper.
 //!
-//! Follows 01, "The image", and 02, "Recovery keys". Each function gives the way in which its rule
-//! is broken, in a few words, so that a generator can count which ways it has reached.
+//! Follows 01, "The image", and 02, "Recovery keys" and "Roots have a date as well". Each function
+//! gives the way in which its rule is broken, in a few words, so that a generator can count which
+//! ways it has reached.
 
 use crate::chain::Trust;
 use crate::phone::{
@@ -259,6 +260,7 @@ fn some_pair<T>(list: &[T], test: impl Fn(&T, &T) -> bool) -> bool {
         .any(|(at, a)| list[at + 1..].iter().any(|b| test(a, b)))
 }
 
+/// A root past its date is not valid, whatever its mark: any number of those may be there.
 pub fn i5_valid_roots(phone: &Phone) -> Way {
     if valid_operator_roots_at(phone, 0) > 1 {
         return Some("two valid operator roots on phone");
@@ -275,7 +277,7 @@ pub fn i5_valid_roots(phone: &Phone) -> Way {
     }
     let manufacturers = phone
         .occupied_certificates()
-        .filter(|c| c.is_valid_root_of(MANUFACTURER))
+        .filter(|c| c.is_valid_root_of(MANUFACTURER, phone.clock))
         .count();
     if manufacturers > 1 {
         return Some("two valid manufacturer roots");
@@ -286,16 +288,16 @@ pub fn i5_valid_roots(phone: &Phone) -> Way {
 fn valid_operator_roots_at(phone: &Phone, place: u16) -> usize {
     phone
         .occupied_certificates()
-        .filter(|c| c.is_valid_root_of(OPERATOR) && c.place == place)
+        .filter(|c| c.is_valid_root_of(OPERATOR, phone.clock) && c.place == place)
         .count()
 }
 
-/// What a present card asks of the valid-marked operator root on the phone.
+/// What a present card asks of the valid operator root on the phone.
 fn i5_present_card(phone: &Phone) -> Way {
     let card = phone.present_card()?;
     let on_phone = phone
         .occupied_certificates()
-        .find(|c| c.is_valid_root_of(OPERATOR) && c.place == 0)?;
+        .find(|c| c.is_valid_root_of(OPERATOR, phone.clock) && c.place == 0)?;
     if valid_operator_roots_at(phone, card.number) > 0 {
         return Some("valid operator root on phone beside one on present card");
     }

@@ -156,8 +156,14 @@ impl Certificate {
         self.kind == ROOT && self.domain == domain
     }
 
-    pub fn is_valid_root_of(&self, domain: u8) -> bool {
-        self.is_root_of(domain) && self.mark == 1
+    /// In date through the second that it names.
+    pub fn is_in_date(&self, clock: u32) -> bool {
+        clock <= self.expiry
+    }
+
+    /// Marked valid and not past its date: a mark alone does not make a root valid.
+    pub fn is_valid_root_of(&self, domain: u8, clock: u32) -> bool {
+        self.is_root_of(domain) && self.mark == 1 && self.is_in_date(clock)
     }
 }
 

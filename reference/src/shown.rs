@@ -1,7 +1,7 @@
 //! What answers show, counted: each form of a line, and what a misreading of 02 would get wrong.
 //!
-//! Follows 02, "Tell the trainee why" and "Recovery keys". A count that is high says that the cases would not let the
-//! misreading pass.
+//! Follows 02, "Tell the trainee why", "Recovery keys" and "Roots have a date as well". A count that
+//! is high says that the cases would not let the misreading pass.
 
 use std::collections::BTreeSet;
 use std::fmt::Write;
@@ -37,7 +37,7 @@ struct Seen<'a> {
 type Test = fn(&Seen) -> bool;
 
 /// What is worth a count beside the lines.
-const POINTS: [(&str, Test); 49] = [
+const POINTS: [(&str, Test); 55] = [
     ("chain of 1 link", |seen| seen.links().len() == 1),
     ("chain of 2 links", |seen| seen.links().len() == 2),
     ("chain of 3 links", |seen| seen.links().len() == 3),
@@ -62,6 +62,10 @@ const POINTS: [(&str, Test); 49] = [
         "a lower id with the key of a link is a recovery key",
         |seen| seen.some_lower_twin(|_, twin| twin.kind == RECOVERY),
     ),
+    (
+        "a lower id with the key of a link is a root past its date alone",
+        |seen| seen.some_lower_twin(is_root_past_its_date_alone),
+    ),
     ("another chain from the root down", |seen| {
         seen.has_other_chain_down()
     }),
@@ -70,10 +74,10 @@ const POINTS: [(&str, Test); 49] = [
         let mut issued = seen.links().iter().filter(|link| link.kind == ISSUED);
         issued.any(|link| Some(link.expiry) == clock)
     }),
-    ("a trusted root past its date", |seen| {
+    ("a trusted root in its last second", |seen| {
         let clock = seen.phone().map(|phone| phone.clock);
         let mut root = seen.links().iter().take(1);
-        root.any(|root| Some(root.expiry) < clock)
+        root.any(|root| Some(root.expiry) == clock)
     }),
     ("a link on the present card", |seen| {
         seen.links().iter().any(|link| link.place != 0)
@@ -120,6 +124,19 @@ const POINTS: [(&str, Test); 49] = [
     ("past its date, and without a good signer too", |seen| {
         seen.has_both(Reason::PastItsDate, Reason::NoGoodSigner)
     }),
+    ("a root that is past its date", |seen| {
+        seen.has_old_root(Reason::PastItsDate)
+    }),
+    ("a root past its date by one second", |seen| {
+        let clock = seen.phone().map_or(0, |phone| phone.clock);
+        seen.some_reason(|record, reason| {
+            let is_old_root = reason == Reason::PastItsDate && record.kind == ROOT;
+            is_old_root && clock - record.expiry == 1
+        })
+    }),
+    ("a root on an absent card that is past its date", |seen| {
+        seen.has_old_root(Reason::AbsentCard)
+    }),
     ("a root marked invalid that is past its date", |seen| {
         seen.has_old_root(Reason::MarkedInvalid)
     }),
@@ -155,12 +172,25 @@ const POINTS: [(&str, Test); 49] = [
             })
         })
     }),
+    ("a signer that is a root past its date alone", |seen| {
+        seen.some_without_signer(|phone, record| {
+            phone.occupied_certificates().any(|signer| {
+                is_root_past_its_date_alone(phone, signer)
+                    && signer.domain == record.domain
+                    && signer.key == record.verifying_key
+            })
+        })
+    }),
+    ("no chain, since the root's date passed", |seen| {
+        seen.links().is_empty()
+            && seen.has_lost_root(|phone, now, _| is_root_past_its_date_alone(phone, now))
+    }),
     ("a chain from a root that was replaced", |seen| {
         let root = seen.links().first();
         root.is_some_and(|root| seen.key_before(root).is_some_and(|key| key != root.key))
     }),
     ("no chain, since the root was replaced", |seen| {
-        seen.links().is_empty() && seen.has_lost_root()
+        seen.links().is_empty() && seen.has_lost_root(|_, now, old| now.key != old.key)
     }),
     ("a certificate's id above 255", |seen| {
         let links = seen.links().iter();
@@ -200,6 +230,11 @@ const POINTS: [(&str, Test); 49] = [
 
 fn is_good(phone: &Phone, record: &Certificate) -> bool {
     serving(phone, record.domain, record.key, 4).contains(record)
+}
+
+/// A root that a date alone keeps from being trusted.
+fn is_root_past_its_date_alone(phone: &Phone, record: &Certificate) -> bool {
+    record.kind == ROOT && true_reasons(phone, record) == [Reason::PastItsDate]
 }
 
 impl Seen<'_> {
@@ -318,19 +353,20 @@ impl Seen<'_> {
         (record.kind == ROOT).then_some(record.key)
     }
 
-    /// Whether the executable had a chain from a root that has another key now.
-    fn has_lost_root(&self) -> bool {
+    /// Whether the executable had a chain from a root of which the test holds, by what it is now
+    /// and what it was then.
+    fn has_lost_root(&self, test: impl Fn(&Phone, &Certificate, &Certificate) -> bool) -> bool {
         let Some(phones) = self.phones() else {
             return false;
         };
         let Answer::Chain { links, .. } = explain(&phones.before, self.id) else {
             return false;
         };
-        let is_replaced = |old: &Certificate| {
+        let is_lost = |old: &Certificate| {
             let now = phones.asked.certificate(old.id);
-            now.is_some_and(|now| now.kind == ROOT && now.key != old.key)
+            now.is_some_and(|now| now.kind == ROOT && test(&phones.asked, now, old))
         };
-        phones.asked.executable(self.id).is_some() && links.first().is_some_and(is_replaced)
+        phones.asked.executable(self.id).is_some() && links.first().is_some_and(is_lost)
     }
 
     /// Whether the executable was there before the events.

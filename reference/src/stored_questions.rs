@@ -210,7 +210,7 @@ mod tests {
         let choice = Choice {
             seed: 1,
             most: 80,
-            most_bytes: 600,
+            most_bytes: 700,
             fresh: true,
         };
         let chosen = chosen(&choice).expect("chosen questions");

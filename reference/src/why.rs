@@ -1,9 +1,9 @@
 //! Why an executable is trusted or not: a shortest chain of its key, or what is wrong with each
 //! record that has the key.
 //!
-//! Follows 02, "Tell the trainee why" and "Recovery keys". Of all chains that there are, the first
-//! by the words is taken; what is good within so many links is said here by writing the chains
-//! down, and not by the rounds of `chain`.
+//! Follows 02, "Tell the trainee why", "Recovery keys" and "Roots have a date as well". Of all
+//! chains that there are, the first by the words is taken; what is good within so many links is said
+//! here by writing the chains down, and not by the rounds of `chain`.
 
 use crate::bench::{event_records, refused_line, split_stream};
 use crate::chain::{is_issued_in_date, is_trusted_root, MOST_LINKS};
@@ -43,14 +43,14 @@ impl Reason {
         }
     }
 
-    /// Date and signer are asked of issued records alone: a root needs neither.
+    /// A signer is asked of issued records alone, and a date of them and of roots.
     pub fn is_true_of(self, phone: &Phone, record: &Certificate) -> bool {
         match self {
             Reason::RecoveryKey => record.kind == RECOVERY,
             Reason::AbsentCard => !phone.is_present(record.place),
             Reason::MarkedInvalid => record.mark == 0,
             Reason::Disabled => record.enabled == 0,
-            Reason::PastItsDate => record.kind == ISSUED && phone.clock > record.expiry,
+            Reason::PastItsDate => record.kind != RECOVERY && !record.is_in_date(phone.clock),
             Reason::NoGoodSigner => record.kind == ISSUED && !has_good_signer(phone, record),
         }
     }

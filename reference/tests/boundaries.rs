@@ -1,7 +1,8 @@
-//! The ten boundaries that 01 marks P, at the end of "One run of `bench`, whole".
+//! The ten boundaries that 01 marks P, at the end of "One run of `bench`, whole", and the two that
+//! 02, "Roots have a date as well", adds to them.
 
 mod common;
-use common::{answers, WORKED_RUN};
+use common::{answers, worked_image, WORKED_RUN};
 
 /// The answer to one event of the worked run, counted from 1.
 fn worked(event: usize) -> (u8, u8, u8) {
@@ -46,7 +47,7 @@ fn event_13_marks_the_key_valid_again() {
 /// A chain of so many links in the third party domain, and an executable signed by its end.
 fn chain_of(links: u32) -> String {
     let mut lines = String::from("phone mode 0 card none clock 7\n");
-    lines += "certificate 1 on phone root third-party valid enabled key 1 owner 0 expiry 0\n";
+    lines += "certificate 1 on phone root third-party valid enabled key 1 owner 0 expiry 7\n";
     for key in 2..=links {
         let by = key - 1;
         lines += &format!(
@@ -78,6 +79,23 @@ certificate 2 on phone issued operator key 2 by 1 owner 0 expiry 9
 executable 1 untrusted signed 1 permissions none
 action 0 untrusted never operator free manufacturer free third-party free";
     assert_eq!(answers(image, "verify by device executable 1"), [(0, 0, 0)]);
+}
+
+/// The answer to request 1/1 at a second, where root 10 of the worked image expires at 150.
+fn request_at(second: u32) -> (u8, u8, u8) {
+    let image = worked_image().replacen("expiry 1000", "expiry 150", 1);
+    let events = format!("clock by device to {second}\nrequest by device executable 1 action 1");
+    answers(&image, &events)[1]
+}
+
+#[test]
+fn a_root_serves_in_its_last_second() {
+    assert_eq!(request_at(150), (0, 1, 2));
+}
+
+#[test]
+fn a_root_does_not_serve_one_second_later() {
+    assert_eq!(request_at(151), (15, 0, 0));
 }
 
 #[test]

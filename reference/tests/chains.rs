@@ -1,21 +1,24 @@
-//! The definition of 01, "Chains", asked record by record, against the answer of the crate.
+//! The definition of 01, "Chains", with the dates of 02, asked record by record, against the answer
+//! of the crate.
 
 use reference::chain::{Trust, MOST_LINKS};
 use reference::generate::images::{accepted_phone, Shape};
 use reference::phone::{Certificate, Phone};
 use reference::random::Random;
 
-/// The definition word for word.
+/// The definition word for word; every good record is in date, a root too.
 fn is_good(phone: &Phone, record: &Certificate, links: u8) -> bool {
     if links == 0 {
         return false;
     }
     let present = record.place == 0 || record.place == phone.card_present;
-    let trusted_root = record.kind == 0 && present && record.mark == 1 && record.enabled == 1;
+    let in_date = phone.clock <= record.expiry;
+    let trusted_root =
+        record.kind == 0 && present && record.mark == 1 && record.enabled == 1 && in_date;
     trusted_root
         || record.kind == 1
             && present
-            && phone.clock <= record.expiry
+            && in_date
             && phone.occupied_certificates().any(|other| {
                 other.domain == record.domain
                     && other.key == record.verifying_key

@@ -8,16 +8,16 @@ use common::{answers, codes, phone_after, refusal, worked_image};
 /// A fuller image: the card of operator 500 is in, one slot of each table is free.
 const IMAGE: &str = "\
 phone mode 1 card 1 clock 100
-certificate 1 on phone root operator invalid enabled key 1 owner 600 expiry 0
-certificate 2 on phone root operator valid enabled key 2 owner 500 expiry 0
-certificate 3 on card 1 root operator invalid enabled key 3 owner 500 expiry 0
-certificate 4 on card 2 root operator valid enabled key 4 owner 600 expiry 0
-certificate 5 on phone root manufacturer valid enabled key 5 owner 0 expiry 0
-certificate 6 on phone root manufacturer invalid enabled key 6 owner 0 expiry 0
-certificate 7 on phone root third-party valid enabled key 7 owner 0 expiry 0
-certificate 8 on card 2 root third-party valid enabled key 8 owner 0 expiry 0
+certificate 1 on phone root operator invalid enabled key 1 owner 600 expiry 900
+certificate 2 on phone root operator valid enabled key 2 owner 500 expiry 900
+certificate 3 on card 1 root operator invalid enabled key 3 owner 500 expiry 900
+certificate 4 on card 2 root operator valid enabled key 4 owner 600 expiry 900
+certificate 5 on phone root manufacturer valid enabled key 5 owner 0 expiry 900
+certificate 6 on phone root manufacturer invalid enabled key 6 owner 0 expiry 900
+certificate 7 on phone root third-party valid enabled key 7 owner 0 expiry 900
+certificate 8 on card 2 root third-party valid enabled key 8 owner 0 expiry 900
 certificate 9 on phone issued operator key 9 by 2 owner 0 expiry 100
-certificate 10 on phone root operator invalid enabled key 10 owner 500 expiry 0
+certificate 10 on phone root operator invalid enabled key 10 owner 500 expiry 900
 certificate free
 card 1 operator 500
 card 2 operator 600

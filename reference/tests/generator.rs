@@ -73,7 +73,9 @@ fn damaged_cases_break_every_rule_at_many_places_and_leave_some_images_accepted(
     for rule in 1..=8 {
         let (images, offsets) = counts.of_rule(rule);
         assert!(images >= 80, "I{rule} is broken {images} times");
-        assert!(offsets >= 20, "I{rule} is broken at {offsets} offsets");
+        // Of I1 these are twelve fields, and the lengths of headers that are cut.
+        let enough = if rule == 1 { 16 } else { 20 };
+        assert!(offsets >= enough, "I{rule} is broken at {offsets} offsets");
     }
     // Every header field that can be wrong, and the present card.
     for field in [0, 2, 4, 6, 8, 10, 14, 20, 24, 28, 32, 36] {

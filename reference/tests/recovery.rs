@@ -11,17 +11,17 @@ use reference::why::Question;
 /// Certificates from byte 40; no card is in, and one slot is free.
 const IMAGE: &str = "\
 phone mode 1 card none clock 100
-certificate 9 on phone root operator invalid enabled key 900 owner 500 expiry 0
+certificate 9 on phone root operator invalid enabled key 900 owner 500 expiry 900
 certificate 10 on phone root operator valid enabled key 1000 owner 500 expiry 1000
 certificate 11 on phone issued operator key 1001 by 1000 owner 500 expiry 900
-certificate 13 on phone root operator invalid enabled key 1300 owner 600 expiry 0
-certificate 14 on card 1 root operator invalid enabled key 1400 owner 500 expiry 0
-certificate 15 on card 2 root operator valid enabled key 1500 owner 600 expiry 0
+certificate 13 on phone root operator invalid enabled key 1300 owner 600 expiry 900
+certificate 14 on card 1 root operator invalid enabled key 1400 owner 500 expiry 900
+certificate 15 on card 2 root operator valid enabled key 1500 owner 600 expiry 900
 certificate 16 on card 2 issued operator key 1600 by 1500 owner 500 expiry 900
 certificate 17 on phone issued operator key 1700 by 4000 owner 600 expiry 900
-certificate 20 on phone root manufacturer valid enabled key 2000 owner 70 expiry 0
-certificate 21 on phone root manufacturer invalid enabled key 2100 owner 70 expiry 0
-certificate 30 on phone root third-party valid enabled key 3000 owner 500 expiry 0
+certificate 20 on phone root manufacturer valid enabled key 2000 owner 70 expiry 900
+certificate 21 on phone root manufacturer invalid enabled key 2100 owner 70 expiry 900
+certificate 30 on phone root third-party valid enabled key 3000 owner 500 expiry 900
 certificate 31 on card 2 issued third-party key 3100 by 3000 owner 500 expiry 900
 certificate 40 on phone recovery operator key 4000 owner 500 expiry 0
 certificate 41 on phone recovery operator key 4100 owner 600 expiry 900
@@ -105,13 +105,12 @@ fn the_root_keeps_its_id_and_slot_and_takes_key_owner_and_date() {
 fn a_root_without_a_mark_is_marked_valid() {
     let events = "\
 mark-invalid by operator certificate 10
-replace by operator certificate 9 with 40 key 1002 by 4000 owner 500 expiry 0
+replace by operator certificate 9 with 40 key 1002 by 4000 owner 500 expiry 100
 verify by device executable 3";
     assert_eq!(answers(IMAGE, events), [(0, 0, 0), (0, 0, 0), (0, 1, 1)]);
     let phone = phone_after(IMAGE, events);
     assert_eq!(phone.certificate(9).map(|c| c.mark), Some(1));
-    // The date that it takes may be past: in these rules no root's is looked at.
-    assert_eq!(phone.certificate(9).map(|c| c.expiry), Some(0));
+    assert_eq!(phone.certificate(9).map(|c| c.expiry), Some(100));
     assert_eq!(phone.certificate(10).map(|c| c.mark), Some(0));
 }
 
@@ -168,10 +167,10 @@ fn a_new_key_that_serves_an_old_chain_loses_nobody() {
 
 #[test]
 fn a_replaced_root_can_be_replaced_again() {
-    let again = "replace by operator certificate 10 with 40 key 1003 by 4000 owner 500 expiry 0";
+    let again = "replace by operator certificate 10 with 40 key 1003 by 4000 owner 500 expiry 900";
     assert_eq!(code_after(DONE, again), 0);
     // By the recovery key, and not by the key that the first replace brought.
-    let wrong = "replace by operator certificate 10 with 40 key 1003 by 1002 owner 500 expiry 0";
+    let wrong = "replace by operator certificate 10 with 40 key 1003 by 1002 owner 500 expiry 900";
     assert_eq!(code_after(DONE, wrong), 17);
 }
 
@@ -185,10 +184,10 @@ fn code_2_is_about_the_form() {
     assert_eq!(with_field(|event| event.fourth = 1), 2);
     assert_eq!(with_field(|event| event.actor = 5), 2);
     assert_eq!(with_field(|event| event.kind = REPLACE + 1), 2);
-    // What else may be 0: a verifying key and an owner that do not fit, and a date.
+    // What else may be 0: a verifying key and an owner that do not fit, and a date that is past.
     assert_eq!(changed("by 4000", "by 0"), 17);
     assert_eq!(changed("owner 500", "owner 0"), 17);
-    assert_eq!(changed("expiry 900", "expiry 0"), 0);
+    assert_eq!(changed("expiry 900", "expiry 0"), 18);
     assert_eq!(changed("expiry 900", "expiry 4294967295"), 0);
 }
 
@@ -199,7 +198,7 @@ fn code_3_is_about_either_id() {
     // The ids of executables are another space.
     assert_eq!(changed("with 40", "with 4"), 3);
     // 3 before 4: nobody may, and one of the two is not there.
-    let by_user = "replace by user certificate 30 with 99 key 1002 by 0 owner 0 expiry 0";
+    let by_user = "replace by user certificate 30 with 99 key 1002 by 0 owner 0 expiry 900";
     assert_eq!(code(by_user), 3);
 }
 
@@ -209,9 +208,9 @@ fn code_4_goes_by_the_domain_of_the_root() {
         assert_eq!(changed("by operator", &format!("by {actor}")), 4);
     }
     let manufacturer = "replace by manufacturer certificate 20 with 42 key 2002 by 4200 owner 70";
-    assert_eq!(code(&format!("{manufacturer} expiry 0")), 0);
+    assert_eq!(code(&format!("{manufacturer} expiry 900")), 0);
     let by_operator = manufacturer.replace("by manufacturer", "by operator");
-    assert_eq!(code(&format!("{by_operator} expiry 0")), 4);
+    assert_eq!(code(&format!("{by_operator} expiry 900")), 4);
     // The first record decides, also where it is none to replace.
     assert_eq!(changed("certificate 10", "certificate 42"), 4);
 }
@@ -244,9 +243,9 @@ fn code_8_looks_at_the_first_record_alone() {
     // The second is on an absent card: it is no recovery record.
     assert_eq!(changed("with 40", "with 16"), 17);
     // With the card in, it is the place that is wrong.
-    let valid = "replace by operator certificate 14 with 40 key 1002 by 4000 owner 500 expiry 0";
+    let valid = "replace by operator certificate 14 with 40 key 1002 by 4000 owner 500 expiry 900";
     assert_eq!(code_after("card-in by device card 1", valid), 17);
-    let other = "replace by operator certificate 15 with 41 key 1002 by 4100 owner 600 expiry 0";
+    let other = "replace by operator certificate 15 with 41 key 1002 by 4100 owner 600 expiry 900";
     assert_eq!(code_after("card-in by device card 2", other), 17);
 }
 
@@ -261,9 +260,9 @@ fn code_10_is_about_a_key_of_another_domain() {
         assert_eq!(changed("key 1002", &format!("key {key}")), 0);
     }
     // The domain is that of the first record, whatever the second is.
-    let event = "replace by operator certificate 10 with 42 key 2000 by 4200 owner 500 expiry 0";
+    let event = "replace by operator certificate 10 with 42 key 2000 by 4200 owner 500 expiry 900";
     assert_eq!(code(event), 10);
-    let event = "replace by operator certificate 10 with 42 key 1000 by 4200 owner 500 expiry 0";
+    let event = "replace by operator certificate 10 with 42 key 1000 by 4200 owner 500 expiry 900";
     assert_eq!(code(event), 17);
     // 10 before 11 to 13.
     assert_eq!(
@@ -286,7 +285,7 @@ fn code_11_goes_by_the_owner_that_the_root_has_before() {
     let owner = DONE.replace("owner 500", "owner 600");
     assert_eq!(code_after(&card_in(2), &owner), 11);
     // The root's is the card's, and the event's is not: the card's valid root comes first.
-    let root = "replace by operator certificate 13 with 41 key 1002 by 4100 owner 500 expiry 0";
+    let root = "replace by operator certificate 13 with 41 key 1002 by 4100 owner 500 expiry 900";
     assert_eq!(code_after(&card_in(2), root), 13);
     let events = format!("{}\nmark-invalid by operator certificate 15", card_in(2));
     assert_eq!(code_after(&events, root), 17);
@@ -296,7 +295,7 @@ fn code_11_goes_by_the_owner_that_the_root_has_before() {
     let issued = DONE.replace("certificate 10", "certificate 11");
     assert_eq!(code_after(&card_in(2), &issued), 12);
     let manufacturer =
-        "replace by manufacturer certificate 20 with 42 key 2002 by 4200 owner 70 expiry 0";
+        "replace by manufacturer certificate 20 with 42 key 2002 by 4200 owner 70 expiry 900";
     assert_eq!(code_after(&card_in(2), manufacturer), 0);
 }
 
@@ -339,7 +338,7 @@ fn code_13_is_about_another_valid_root() {
         0
     );
     let manufacturer =
-        "replace by manufacturer certificate 21 with 42 key 2002 by 4200 owner 70 expiry 0";
+        "replace by manufacturer certificate 21 with 42 key 2002 by 4200 owner 70 expiry 900";
     assert_eq!(code(manufacturer), 13);
     assert_eq!(
         code_after("mark-invalid by manufacturer certificate 20", manufacturer),
@@ -361,7 +360,7 @@ mark-valid by operator certificate 14";
     let on_card = "\
 card-in by device card 2
 install-certificate by operator certificate 99 on card 2 root operator key 99 owner 600 expiry 0";
-    let event = "replace by operator certificate 99 with 41 key 1002 by 4100 owner 600 expiry 0";
+    let event = "replace by operator certificate 99 with 41 key 1002 by 4100 owner 600 expiry 900";
     assert_eq!(code_after(on_card, event), 13);
 }
 
@@ -370,26 +369,26 @@ fn code_17_is_about_the_recovery_record() {
     // No recovery record: the root itself, another root, an issued record of the owner.
     assert_eq!(changed("with 40", "with 10"), 17);
     assert_eq!(
-        code("replace by operator certificate 10 with 10 key 1002 by 1000 owner 500 expiry 0"),
+        code("replace by operator certificate 10 with 10 key 1002 by 1000 owner 500 expiry 900"),
         17
     );
     assert_eq!(
-        code("replace by operator certificate 10 with 9 key 1002 by 900 owner 500 expiry 0"),
+        code("replace by operator certificate 10 with 9 key 1002 by 900 owner 500 expiry 900"),
         17
     );
     assert_eq!(
-        code("replace by operator certificate 10 with 11 key 1002 by 1001 owner 500 expiry 0"),
+        code("replace by operator certificate 10 with 11 key 1002 by 1001 owner 500 expiry 900"),
         17
     );
     // Of another domain, though of the same owner.
     assert_eq!(
-        code("replace by operator certificate 10 with 43 key 1002 by 4300 owner 500 expiry 0"),
+        code("replace by operator certificate 10 with 43 key 1002 by 4300 owner 500 expiry 900"),
         17
     );
     // Of another owner, whichever of the two the event names.
     for owner in [500, 600] {
         let event = "replace by operator certificate 10 with 41 key 1002 by 4100";
-        assert_eq!(code(&format!("{event} owner {owner} expiry 0")), 17);
+        assert_eq!(code(&format!("{event} owner {owner} expiry 900")), 17);
     }
     // The event's owner alone is another.
     assert_eq!(changed("owner 500", "owner 501"), 17);
@@ -399,7 +398,8 @@ fn code_17_is_about_the_recovery_record() {
         assert_eq!(changed("by 4000", &format!("by {key}")), 17);
     }
     // The recovery record's own date is past, and that is nothing.
-    assert_eq!(code_after("clock by device to 4000000000", DONE), 0);
+    let later = DONE.replace("expiry 900", "expiry 4000000000");
+    assert_eq!(code_after("clock by device to 4000000000", &later), 0);
 }
 
 #[test]

@@ -10,10 +10,10 @@ use reference::phone::{Certificate, Executable, Phone, MANUFACTURER, OPERATOR, R
 /// Certificates from 40, cards from 136, executables from 160, rows from 196; 204 bytes.
 const IMAGE: &str = "\
 phone mode 1 card 1 clock 100
-certificate 1 on card 1 root operator valid enabled key 10 owner 500 expiry 0
-certificate 2 on card 2 root operator valid enabled key 20 owner 600 expiry 0
-certificate 3 on phone root manufacturer valid enabled key 30 owner 0 expiry 0
-certificate 4 on phone root third-party valid enabled key 40 owner 0 expiry 0
+certificate 1 on card 1 root operator valid enabled key 10 owner 500 expiry 100
+certificate 2 on card 2 root operator valid enabled key 20 owner 600 expiry 100
+certificate 3 on phone root manufacturer valid enabled key 30 owner 0 expiry 100
+certificate 4 on phone root third-party valid enabled key 40 owner 0 expiry 100
 card 1 operator 500
 card 2 operator 600
 card 3 operator 500
@@ -298,7 +298,7 @@ fn breaks_i4(phone: &Phone, at: &Certificate, lower: &[Certificate]) -> bool {
 
 /// The same for I5.
 fn breaks_i5(phone: &Phone, at: &Certificate, lower: &[Certificate]) -> bool {
-    let is_valid = |c: &Certificate| c.kind == ROOT && c.mark == 1;
+    let is_valid = |c: &Certificate| c.kind == ROOT && c.mark == 1 && c.expiry >= phone.clock;
     if !is_valid(at) {
         return false;
     }

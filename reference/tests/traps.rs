@@ -22,12 +22,12 @@ fn a_card_of_the_same_operator_without_a_root_leaves_the_phones_key() {
 fn a_marked_invalid_twin_before_a_good_one_does_no_harm() {
     let image = "\
 phone mode 0 card none clock 100
-certificate 1 on phone root operator invalid enabled key 1 owner 5 expiry 0
+certificate 1 on phone root operator invalid enabled key 1 owner 5 expiry 100
 certificate 2 on phone issued operator key 2 by 9 owner 5 expiry 100
 certificate 3 on phone issued operator key 2 by 1 owner 5 expiry 99
 certificate 4 on phone issued operator key 2 by 1 owner 5 expiry 100
-certificate 5 on card 1 root operator valid enabled key 1 owner 5 expiry 0
-certificate 6 on phone root operator valid enabled key 1 owner 5 expiry 0
+certificate 5 on card 1 root operator valid enabled key 1 owner 5 expiry 100
+certificate 6 on phone root operator valid enabled key 1 owner 5 expiry 100
 card 1 operator 5
 executable 1 untrusted signed 2 permissions none
 executable 2 untrusted signed 1 permissions none

@@ -48,16 +48,20 @@ fn assert_lines(told: String, lines: &[&str]) {
 fn each_reason_is_told() {
     for (record, reason) in [
         (
-            "certificate 5 on card 2 root third-party valid enabled key 40 owner 0 expiry 0",
+            "certificate 5 on card 2 root third-party valid enabled key 40 owner 0 expiry 100",
             "certificate 5 is on an absent card",
         ),
         (
-            "certificate 5 on phone root third-party invalid enabled key 40 owner 0 expiry 0",
+            "certificate 5 on phone root third-party invalid enabled key 40 owner 0 expiry 100",
             "certificate 5 is marked invalid",
         ),
         (
-            "certificate 5 on phone root third-party valid disabled key 40 owner 0 expiry 0",
+            "certificate 5 on phone root third-party valid disabled key 40 owner 0 expiry 100",
             "certificate 5 is disabled",
+        ),
+        (
+            "certificate 5 on phone root third-party valid enabled key 40 owner 0 expiry 99",
+            "certificate 5 is past its date",
         ),
         (
             "certificate 5 on phone issued third-party key 40 by 30 owner 0 expiry 99",
@@ -104,6 +108,14 @@ fn of_several_true_reasons_the_first_is_told() {
             "certificate 5 is disabled",
         ),
         (
+            "certificate 5 on card 2 root third-party valid enabled key 40 owner 0 expiry 99",
+            "certificate 5 is on an absent card",
+        ),
+        (
+            "certificate 5 on card 1 root third-party valid enabled key 40 owner 0 expiry 0",
+            "certificate 5 is past its date",
+        ),
+        (
             "certificate 5 on card 1 issued third-party key 40 by 30 owner 0 expiry 0",
             "certificate 5 is past its date",
         ),
@@ -121,13 +133,15 @@ certificate free
 certificate 256 on phone issued third-party key 40 by 30 owner 0 expiry 100
 certificate 7 on phone issued third-party key 41 by 30 owner 0 expiry 100
 certificate 255 on phone root third-party invalid disabled key 40 owner 0 expiry 0
-certificate 2 on phone root third-party valid disabled key 40 owner 0 expiry 0";
+certificate 2 on phone root third-party valid disabled key 40 owner 0 expiry 0
+certificate 257 on card 1 root third-party valid enabled key 40 owner 0 expiry 99";
     assert_lines(
         told_of_40(certificates, "untrusted"),
         &[
             "certificate 2 is disabled",
             "certificate 255 is marked invalid",
             "certificate 256 has no good signer within three links",
+            "certificate 257 is past its date",
             "certificate 300 is on an absent card",
             "certificate 65535 is past its date",
         ],
@@ -136,7 +150,7 @@ certificate 2 on phone root third-party valid disabled key 40 owner 0 expiry 0";
 
 /// A root 10 with the key 10, then records 20, 30 and so on, each verified by the key before it.
 fn ladder(last: u32) -> String {
-    let root = "certificate 10 on phone root third-party valid enabled key 10 owner 0 expiry 0";
+    let root = "certificate 10 on phone root third-party valid enabled key 10 owner 0 expiry 100";
     let issued = |key: u32| {
         let by = key - 10;
         format!(
@@ -191,7 +205,7 @@ certificate 7 on phone issued third-party key 40 by 40 owner 0 expiry 100";
 #[test]
 fn a_signer_of_another_domain_is_none() {
     let certificates = "\
-certificate 3 on phone root manufacturer valid enabled key 30 owner 0 expiry 0
+certificate 3 on phone root manufacturer valid enabled key 30 owner 0 expiry 100
 certificate 4 on phone issued third-party key 40 by 30 owner 0 expiry 100";
     assert_lines(
         told_of_40(certificates, "untrusted"),
@@ -251,9 +265,9 @@ fn twins(order: [u16; 3]) -> String {
     let [a, b, c] = order;
     format!(
         "\
-certificate 1{a} on phone root third-party valid enabled key 10 owner 0 expiry 0
-certificate 1{b} on phone root third-party valid enabled key 10 owner 0 expiry 0
-certificate 1{c} on phone root third-party valid enabled key 10 owner 0 expiry 0
+certificate 1{a} on phone root third-party valid enabled key 10 owner 0 expiry 100
+certificate 1{b} on phone root third-party valid enabled key 10 owner 0 expiry 100
+certificate 1{c} on phone root third-party valid enabled key 10 owner 0 expiry 100
 certificate 2{a} on phone issued third-party key 20 by 10 owner 0 expiry 100
 certificate 2{b} on phone issued third-party key 20 by 10 owner 0 expiry 100
 certificate 2{c} on phone issued third-party key 20 by 10 owner 0 expiry 100
@@ -280,8 +294,8 @@ fn of_twins_the_lowest_id_is_told_whichever_slot_it_has() {
 #[test]
 fn a_lower_id_that_is_not_good_does_not_serve() {
     let certificates = "\
-certificate 1 on phone root third-party valid disabled key 10 owner 0 expiry 0
-certificate 2 on phone root third-party valid enabled key 10 owner 0 expiry 0
+certificate 1 on phone root third-party valid disabled key 10 owner 0 expiry 100
+certificate 2 on phone root third-party valid enabled key 10 owner 0 expiry 100
 certificate 3 on card 2 issued third-party key 40 by 10 owner 0 expiry 100
 certificate 4 on phone issued third-party key 40 by 10 owner 0 expiry 99
 certificate 6 on phone issued third-party key 40 by 11 owner 0 expiry 100
@@ -303,8 +317,8 @@ certificate 1 on phone issued third-party key 40 by 20 owner 0 expiry 100
 certificate 9 on phone issued third-party key 40 by 10 owner 0 expiry 100
 certificate 7 on phone issued third-party key 20 by 10 owner 0 expiry 100
 certificate 2 on phone issued third-party key 10 by 5 owner 0 expiry 100
-certificate 8 on phone root third-party valid enabled key 10 owner 0 expiry 0
-certificate 3 on phone root third-party valid enabled key 5 owner 0 expiry 0";
+certificate 8 on phone root third-party valid enabled key 10 owner 0 expiry 100
+certificate 3 on phone root third-party valid enabled key 5 owner 0 expiry 100";
     assert_lines(
         told_of_40(certificates, "third-party"),
         &[
@@ -318,8 +332,8 @@ certificate 3 on phone root third-party valid enabled key 5 owner 0 expiry 0";
 fn links_are_chosen_from_the_signer_up() {
     // From the root down it would be 1, 6 and 8; the signer's lowest id leads to the root 2.
     let certificates = "\
-certificate 1 on phone root third-party valid enabled key 10 owner 0 expiry 0
-certificate 2 on phone root third-party valid enabled key 11 owner 0 expiry 0
+certificate 1 on phone root third-party valid enabled key 10 owner 0 expiry 100
+certificate 2 on phone root third-party valid enabled key 11 owner 0 expiry 100
 certificate 6 on phone issued third-party key 20 by 10 owner 0 expiry 100
 certificate 7 on phone issued third-party key 21 by 11 owner 0 expiry 100
 certificate 8 on phone issued third-party key 40 by 20 owner 0 expiry 100
@@ -336,7 +350,7 @@ certificate 5 on phone issued third-party key 40 by 21 owner 0 expiry 100";
 
 #[test]
 fn a_root_with_the_key_makes_the_chain_one_link() {
-    let root = "certificate 90 on phone root third-party valid enabled key 40 owner 0 expiry 0";
+    let root = "certificate 90 on phone root third-party valid enabled key 40 owner 0 expiry 100";
     assert_lines(
         told_of_40(&format!("{}\n{root}", ladder(40)), "third-party"),
         &["certificate 90 is a trusted root"],

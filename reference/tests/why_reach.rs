@@ -6,9 +6,9 @@ use reference::generate::questions::questions;
 use reference::shown::Shown;
 
 #[test]
-fn five_hundred_streams_show_everything() {
+fn a_thousand_streams_show_everything() {
     let mut shown = Shown::default();
-    for number in 0..500 {
+    for number in 0..1000 {
         let questions = questions(1, number);
         let scene = Scene::of(&questions.case.stream, questions.events);
         shown.streams += 1;

@@ -11,7 +11,7 @@ ghost use Prim.Native.Nat.{_<_, _≤_};
 ghost use mathlib.Core.Path.{_≡_};
 ghost use Rattle.handling.specs.Plans.{on-certificate, for-certificate};
 ghost use Rattle.certificates.specs.Decisions.{of-other-card, of-other-operator, certificate-plan, listed-code};
-ghost use Rattle.certificates.specs.MarkingRows.{marking-rows, replacing-rows, replace-plan};
+ghost use Rattle.certificates.specs.MarkingRows.{validity-rows, marking-rows, replacing-rows, replace-plan};
 ghost use Rattle.rules.specs.AcceptedImage.{Accepted-image};
 ghost use Rattle.records.specs.Frame.{Framed};
 ghost use lib.ListN.{length};
@@ -153,12 +153,12 @@ fn of_other_operator(s: &[u8], c: Certificate) -> bool
     false
 }
 
-// What stands against marking the certificate in a slot valid, besides its mark: 0, or 11, 12 or 13. The slot is lent and not the record,
-// which two callers would each have to put together.
-fn judge_marking(s: &[u8], slot: usize) -> u8
+// What stands against the certificate in a slot being valid, besides its mark and its date: 0, or 11, 12 or 13. The slot is lent and not
+// the record, which two callers would each have to put together.
+fn judge_validity(s: &[u8], slot: usize) -> u8
     requires { ⌜ Framed (now s) ⌝ }
     requires { ⌜ slot < length (decode (now s) .trust .certificates) ⌝ }
-    ensures { λ r. ⌜ r ≡ first (marking-rows (decode (now (s .entry))) (certificate-at (decode (now (s .entry))) slot)) ⌝ }
+    ensures { λ r. ⌜ r ≡ first (validity-rows (decode (now (s .entry))) (certificate-at (decode (now (s .entry))) slot)) ⌝ }
 {
     let c = image::certificate(s, slot);
     if of_other_operator(s, c) {
@@ -169,6 +169,22 @@ fn judge_marking(s: &[u8], slot: usize) -> u8
     }
     if has_rival(s, c) {
         return 13;
+    }
+    0
+}
+
+// What stands against marking it valid: that, or 18.
+fn judge_marking(s: &[u8], slot: usize) -> u8
+    requires { ⌜ Framed (now s) ⌝ }
+    requires { ⌜ slot < length (decode (now s) .trust .certificates) ⌝ }
+    ensures { λ r. ⌜ r ≡ first (marking-rows (decode (now (s .entry))) (certificate-at (decode (now (s .entry))) slot)) ⌝ }
+{
+    let told = judge_validity(s, slot);
+    if told != 0 {
+        return told;
+    }
+    if !terms::in_date(image::clock(s), image::certificate(s, slot)) {
+        return 18;
     }
     0
 }
@@ -214,7 +230,8 @@ pub fn mark_invalid(s: &[u8], e: Event) -> Plan
     }
 }
 
-// What stands against replacing the root in a slot by record r: 0, or 10, what stands against marking it valid, or 17.
+// What stands against replacing the root in a slot by record r: 0, or 10, what stands against it being valid, 17, or 18 by the date that
+// the event brings.
 fn judge_replacing(s: &[u8], e: Event, slot: usize, r: Certificate) -> u8
     requires { ⌜ Framed (now s) ⌝ }
     requires { ⌜ slot < length (decode (now s) .trust .certificates) ⌝ }
@@ -224,12 +241,15 @@ fn judge_replacing(s: &[u8], e: Event, slot: usize, r: Certificate) -> u8
     if lookup::key_elsewhere(s, e.key, c.domain) {
         return 10;
     }
-    let told = judge_marking(s, slot);
+    let told = judge_validity(s, slot);
     if told != 0 {
         return told;
     }
     if !terms::may_replace(e, c, r) {
         return 17;
+    }
+    if e.expiry < image::clock(s) {
+        return 18;
     }
     0
 }

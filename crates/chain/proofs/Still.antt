@@ -11,10 +11,11 @@ use Rattle.records.specs.declared.Certificate.{Certificate}
 use Rattle.records.specs.declared.Event.{Event}
 use Rattle.rules.specs.Words.{any, at}
 use Rattle.rules.specs.Chains.{present, in-date, valid-root, trusted-root, link}
-use Rattle.rules.specs.ImageRules.{third-party-root, valid-in, has-valid-operator}
+use Rattle.rules.specs.ImageRules.{third-party-root}
 use Rattle.rules.specs.Forms.{new-certificate}
 use Rattle.rules.specs.Codes.{certificate-named}
-use Rattle.rules.specs.Effects.{settle, retired, phone-operator-root, card-rule, install-certificate, on-a-card, after-marking, mark-valid, enabled-by, message}
+use Rattle.rules.specs.Effects.{settle, retired, phone-operator-root, marked-operator, card-rule, on-a-card, after-marking}
+use Rattle.rules.specs.Effects.{install-certificate, mark-valid, enabled-by, message}
 use Rattle.rules.proofs.Accepted.{Occupied, Accepted}
 use Rattle.rules.proofs.Tests.{tests, or-cases, eq→eqb, by-test}
 use Rattle.rules.proofs.Lists.{none-out}
@@ -33,39 +34,61 @@ module _ (p : Phone) (ok : Accepted p) where
       settle-still q (λ x m d. fewer-chains (p .trust) (q .trust) f (x .signing) (x .domain) (ok .chained x (subst (List·Memᴰ x) e m) d))
 
   -- the same slots at another time at which no record has run out
-  later-link : (t : ℕ) (c : Certificate) → (T (runs-out (p .trust .seen .clock) t c) → ⊥)
-      → T (link (p .trust .seen) c) → T (link (with-clock t p .trust .seen) c)
-  unfolding runs-out link present
-  later-link t c h r =
-      let k : T (eqb (c .kind) 1) = search tests in
-      let i : T (in-date (p .trust .seen .clock) c) = search tests in
+  lasts : (t : ℕ) (c : Certificate) → (T (runs-out (p .trust .seen .clock) t c) → ⊥) → T (eqb (c .mark) 1)
+      → T (in-date (p .trust .seen .clock) c) → T (in-date t c)
+  unfolding runs-out
+  lasts t c h m i = by-test (in-date t c) (λ y. y) (λ n. absurd (h (search tests)))
+
+  later-root : (t : ℕ) (c : Certificate) → (T (runs-out (p .trust .seen .clock) t c) → ⊥)
+      → T (trusted-root (p .trust .seen) c) → T (trusted-root (with-clock t p .trust .seen) c)
+  unfolding trusted-root valid-root present
+  later-root t c h r =
+      let k : T (eqb (c .kind) 0) = search tests in
+      let m : T (eqb (c .mark) 1) = search tests in
+      let n : T (eqb (c .enabled) 1) = search tests in
       let w : T (eqb (c .place) 0 || eqb (c .place) (p .trust .seen .card)) = search tests in
-      let y : T (in-date t c) = by-test (in-date t c) (λ y. y) (λ n. absurd (h (search tests))) in
+      let y = lasts t c h m (search tests) in
       search tests
 
-  later-narrows : (t : ℕ) (c : Certificate) → (T (runs-out (p .trust .seen .clock) t c) → ⊥) → Narrows (p .trust .seen) (with-clock t p .trust .seen) c c
-  unfolding trusted-root valid-root present
-  later-narrows t c h =
+  -- an issued record is always marked valid
+  issued-marked : (c : Certificate) → List·Memᴰ c (p .trust .certificates) → c .kind ≡ 1 → c .mark ≡ 1
+  issued-marked c m k = go (ok .trust .held .slots c m)
+    where
+      go : (c ≡ no-certificate) ⊎ Occupied c → c .mark ≡ 1
+      go (inl z) = absurd (omega (arith, ap (λ x. x .kind) z))
+      go (inr o) = o .issued k .1
+
+  later-link : (t : ℕ) (c : Certificate) → List·Memᴰ c (p .trust .certificates) → (T (runs-out (p .trust .seen .clock) t c) → ⊥)
+      → T (link (p .trust .seen) c) → T (link (with-clock t p .trust .seen) c)
+  unfolding link present
+  later-link t c m h r =
+      let k : T (eqb (c .kind) 1) = search tests in
+      let w : T (eqb (c .place) 0 || eqb (c .place) (p .trust .seen .card)) = search tests in
+      let y = lasts t c h (eq→eqb (c .mark) 1 (issued-marked c m (eqb→eq (c .kind) 1 k))) (search tests) in
+      search tests
+
+  later-narrows : (t : ℕ) (c : Certificate) → List·Memᴰ c (p .trust .certificates) → (T (runs-out (p .trust .seen .clock) t c) → ⊥)
+      → Narrows (p .trust .seen) (with-clock t p .trust .seen) c c
+  later-narrows t c m h =
       record {
-        root = λ r. (r, narrows-refl (p .trust .seen) c .root r .1);
-        issued = λ r. (later-link t c h r, narrows-refl (p .trust .seen) c .issued r .1);
+        root = λ r. (later-root t c h r, narrows-refl (p .trust .seen) c .root r .1);
+        issued = λ r. (later-link t c m h r, narrows-refl (p .trust .seen) c .issued r .1);
       }
 
   later-fewer : (t : ℕ) → T (not (any (runs-out (p .trust .seen .clock) t) (p .trust .certificates))) → Fewer (p .trust) (with-clock t p .trust)
   later-fewer t h =
       let none = none-out (runs-out (p .trust .seen .clock) t) (p .trust .certificates) h in
-      fewer-by (p .trust) (with-clock t p .trust) (λ c m. record { certificate = c; mem = m; narrows = later-narrows t c (none c m) })
+      fewer-by (p .trust) (with-clock t p .trust) (λ c m. record { certificate = c; mem = m; narrows = later-narrows t c m (none c m) })
 
-  -- no operator root on the phone is valid: the card rule finds no mark to take
-  module _ (n : ℕ) (unmarked : T (not (has-valid-operator (p .trust) 0))) where
+  -- no operator root on the phone is marked valid: the card rule finds no mark to take
+  module _ (n : ℕ) (unmarked : T (not (any marked-operator (p .trust .certificates)))) where
     no-mark : (c : Certificate) → List·Memᴰ c (p .trust .certificates) → T (phone-operator-root c) → c .mark ≡ 0
-    unfolding has-valid-operator valid-in valid-root
     no-mark c m o = go (ok .trust .held .slots c m)
       where
         none : c .mark ≡ 1 → ⊥
         none e =
             let a : T (eqb (c .mark) 1) = eq→eqb (c .mark) 1 e in
-            none-out (λ x. valid-in 1 (p .trust .seen .clock) x && eqb (x .place) 0) (p .trust .certificates) unmarked c m (search tests)
+            none-out marked-operator (p .trust .certificates) unmarked c m (search tests)
 
         go : (c ≡ no-certificate) ⊎ Occupied c → c .mark ≡ 0
         go (inl e) = ap (λ x. x .mark) e

@@ -8,9 +8,9 @@ use Rattle.rules.specs.Chains.{in-date}
 use Rattle.rules.specs.ImageRules.{third-party-root}
 use Rattle.rules.specs.Effects.{enabled-by}
 
--- an issued record that is in date at the clock, and no longer at t
+-- a record that is marked valid, as an issued one always is, in date at the clock, and no longer at t
 unfoldable pub runs-out : ℕ → ℕ → Certificate → Bool
-runs-out clock t c = eqb (c .kind) 1 && in-date clock c && not (in-date t c)
+runs-out clock t c = eqb (c .mark) 1 && in-date clock c && not (in-date t c)
 
 -- a third party root that is enabled, and no longer after a message
 unfoldable pub disables : Event → Certificate → Bool

@@ -202,17 +202,17 @@ pub fn settle(s: &mut [u8])
     settle_domain(s, records::THIRD_PARTY);
 }
 
-// Whether c is issued, in date now, and no longer at t. Most records are in date at t too, so that is asked first.
+// Whether c is marked valid, in date now, and no longer at t. Most records are in date at t too, so that is asked first.
 fn is_running_out(clock: u32, t: u32, c: Certificate) -> bool
     ensures { λ r. ⌜ r ≡ runs-out clock t c ⌝ }
 {
     if terms::in_date(t, c) {
         return false;
     }
-    (c.kind == Certificate::ISSUED) & terms::in_date(clock, c)
+    (c.mark == Certificate::VALID) & terms::in_date(clock, c)
 }
 
-// Whether an issued record is in date now, and no longer at t: only then can time break a chain.
+// Whether a record that is marked valid is in date now, and no longer at t: only then can time break a chain.
 pub fn runs_out(s: &[u8], t: u32) -> bool
     requires { ⌜ Framed (now s) ⌝ }
     ensures { λ r. ⌜ r ≡ any (runs-out (decode (now (s .entry)) .trust .seen .clock) t) (decode (now (s .entry)) .trust .certificates) ⌝ }

@@ -85,6 +85,7 @@ grant-in p n a g =
           nand-i (eqb (byte-for p n a) 1) (not (permission-for p n a))
           (λ one. not-intro (permission-for p n a) (g .permission (eqb→eq (byte-for p n a) 1 one)));
       replaces = tt;
+      dated = tt;
     })
 
 -- I6: the byte for domain 0 is the least

@@ -5,6 +5,7 @@ pub mod Demand3
 pub mod LowestRow
 pub mod TouchNoMore
 pub mod Recovering
+pub mod Dated
 pub mod Examples
 pub mod Pinned
 pub mod Theorems

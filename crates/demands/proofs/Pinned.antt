@@ -1,16 +1,16 @@
 -- What the demands speak of is neither narrower nor wider than its words: a valid operator root is one, and what no kind may touch is kept. Assumes nothing.
-use Prim.Native.Nat.{ℕ}
+use Prim.Native.Nat.{ℕ, _≤_}
 use mathlib.Core.Bool.{Bool, not, _&&_, _||_}
 use mathlib.Core.List.{List, [], _∷_, _++_, map, List·Memᴰ, List·Memᴰ·head}
 use mathlib.Core.Logic.{_⊎_, inl, inr}
 use mathlib.Core.Path.{_≡_, refl, ap}
-use lib.Dec.{T, T-not, eqb}
+use lib.Dec.{T, T-not, eqb, leb→le, le→leb}
 use Rattle.bits.specs.Bits.{set-bit, clear-bit}
 use Rattle.records.specs.Phone.{Seen, Trust, Phone, decode, no-certificate, no-executable, marked, enabling, in-domain, permitted}
 use Rattle.records.specs.declared.Certificate.{Certificate}
 use Rattle.records.specs.declared.Executable.{Executable}
 use Rattle.records.specs.declared.Event.{Event}
-use Rattle.rules.specs.Chains.{present, valid-root, chain-of}
+use Rattle.rules.specs.Chains.{present, in-date, valid-root, chain-of}
 use Rattle.rules.specs.ImageRules.{valid-in, third-party-root}
 use Rattle.rules.specs.Forms.{new-certificate}
 use Rattle.rules.specs.Codes.{certificate-named}
@@ -29,16 +29,19 @@ unfolding present
 here s c (inl h) = search tests
 here s c (inr h) = search tests
 
--- a root of the operator's that is marked valid, on the phone or the present card, is one
+-- a root of the operator's that is marked valid and not past its date, on the phone or the present card, is one
 pub valid-operator : (p : Phone) (c : Certificate) → List·Memᴰ c (p .trust .certificates) → (c .place ≡ 0) ⊎ (c .place ≡ p .trust .seen .card)
-    → c .kind ≡ 0 → c .domain ≡ 1 → c .mark ≡ 1 → Valid-operator p c
-unfolding valid-in valid-root
-valid-operator p c m q k d v = let h = here (p .trust .seen) c q in search tests
+    → c .kind ≡ 0 → c .domain ≡ 1 → c .mark ≡ 1 → p .trust .seen .clock ≤ c .expiry → Valid-operator p c
+unfolding valid-in valid-root in-date
+valid-operator p c m q k d v l =
+    let h = here (p .trust .seen) c q in
+    let i = le→leb (p .trust .seen .clock) (c .expiry) l in
+    search tests
 
 -- as is certificate 10 of 01's image
 pub ten-is-valid : Valid-operator (decode image) (certificate-named (decode image) 10)
 unfolding computing
-ten-is-valid = valid-operator (decode image) (certificate-named (decode image) 10) (List·Memᴰ·head refl) (inl refl) refl refl refl
+ten-is-valid = valid-operator (decode image) (certificate-named (decode image) 10) (List·Memᴰ·head refl) (inl refl) refl refl refl (leb→le 100 1000 tt)
 
 -- ---- in which ways a field may change: as the frames say, and in no other
 

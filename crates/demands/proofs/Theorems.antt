@@ -1,4 +1,4 @@
--- THE THEOREMS. Each sentence of the three demands, and of 02's items 1 and 4, with its statement; the files cited hold the arguments. Assumes nothing.
+-- THE THEOREMS. Each sentence of the three demands, and of 02's items 1, 4 and 5, with its statement; the files cited hold the arguments. Assumes nothing.
 -- l is an image and v an event, both any bytes; vs is a run of events, refused ones among them.
 -- What the statements speak of: `step`, `run` (rules, specs/Step), `code`, `rows` (specs/Codes), `accepted` (specs/ImageRules),
 -- `grants` (specs/Demands), `Chain-within`, `Shortest` (specs/Explicit), here specs/Runs and specs/MayTouch, and `event-of`, `key-named`, `phone-after`
@@ -20,7 +20,7 @@ use Rattle.records.specs.declared.Event.{Event}
 use Rattle.records.proofs.RoundTrip.{decode-encode}
 use Rattle.rules.specs.declared.Site.{Site}
 use Rattle.rules.specs.Words.{at, all}
-use Rattle.rules.specs.Chains.{good, most-links}
+use Rattle.rules.specs.Chains.{valid-root, trusted-root, good, most-links}
 use Rattle.rules.specs.Explicit.{Chain, Chain-within, Shortest}
 use Rattle.rules.specs.ImageRules.{i2, i4, i5, row-fits, i7, i8, accepted, «open», cards-fit, present-known, places-known}
 use Rattle.rules.specs.Faults.{of-certificates, of-executables, at-rule, no-fault, fault, fault-offset}
@@ -46,6 +46,7 @@ use Rattle.keeping.proofs.AcceptedKept.{one-operator}
 use Rattle.demands.proofs.Grant.{granted-exact}
 use Rattle.demands.proofs.Demand3
 use Rattle.demands.proofs.Recovering
+use Rattle.demands.proofs.Dated
 
 -- ==== Demand 1: any image and any event gets one answer from the table
 
@@ -324,3 +325,17 @@ module _ (l v : List ℕ) (done : code l v ≡ 0) (replace : event-of v .kind �
 -- "It belongs to neither list of demand 3.", whatever phone it meets; `gaining` and `losing` (Examples) have a replace that breaks each claim
 pub replace-in-neither : (p : Phone) (e : Event) → e .kind ≡ 16 → (withdrawing p e ≡ false) × (giving p e ≡ false)
 replace-in-neither p e k = Recovering.in-neither p e k
+
+-- ==== 02, item 5: roots have a date as well
+
+-- "A trusted root now also needs clock ≤ expiry"
+pub trusted-in-date : (t : Trust) (c : Certificate) → T (trusted-root (t .seen) c) → t .seen .clock ≤ c .expiry
+trusted-in-date t c h = Dated.trusted-in-date t c h
+
+-- "\"valid\" in demand 2, I5, the card rule and code 13 means marked valid and not past its date": all four ask `valid-root`
+pub valid-means : (clock : ℕ) (c : Certificate) → T (valid-root clock c) ↔ ((c .kind ≡ 0) × (c .mark ≡ 1) × (clock ≤ c .expiry))
+valid-means clock c = Dated.valid-means clock c
+
+-- "Marks are not touched when a date passes.": a clock event leaves every certificate as it is
+pub clock-keeps-certificates : (l v : List ℕ) → code l v ≡ 0 → event-of v .kind ≡ 1 → phone-after l v .trust .certificates ≡ decode l .trust .certificates
+clock-keeps-certificates l v h k = rw (event-phone l v h) (Dated.clock-keeps (decode l) (event-of v) k)

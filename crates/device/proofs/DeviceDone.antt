@@ -10,11 +10,10 @@ use Rattle.records.specs.Frame.{Framed}
 use Rattle.records.specs.declared.Event.{Event}
 use Rattle.rules.specs.declared.Answer.{Answer}
 use Rattle.rules.specs.Words.{any}
-use Rattle.rules.specs.ImageRules.{has-valid-operator}
 use Rattle.rules.specs.AcceptedImage.{Accepted-image}
 use Rattle.rules.specs.Forms.{with-kind}
 use Rattle.rules.specs.Codes.{code-of}
-use Rattle.rules.specs.Effects.{effect, changed, settle, tick, card-rule, card-in, card-out, power-up}
+use Rattle.rules.specs.Effects.{marked-operator, effect, changed, settle, tick, card-rule, card-in, card-out, power-up}
 use Rattle.rules.specs.Step.{answer-done, done}
 use Rattle.chain.specs.Breaks.{runs-out}
 use Rattle.chain.specs.Settling.{Domains-known}
@@ -73,10 +72,10 @@ module _ {l : List ℕ} (e : Event) (a : Accepted-image l) {l₁ : List ℕ} whe
   }
 
   -- with no mark to fall there is nothing to settle
-  pub put-in-only : code-of (decode l) (with-kind 2 e) ≡ 0 → {b : Bool} → b ≡ has-valid-operator (decode l .trust) 0 → not b ≡ true
+  pub put-in-only : code-of (decode l) (with-kind 2 e) ≡ 0 → {b : Bool} → b ≡ any marked-operator (decode l .trust .certificates) → not b ≡ true
       → {x : Answer} → x ≡ answer-done 0 0 → l₁ ≡ encode (with-card (e .second) (decode l)) → Handled l (with-kind 2 e) x l₁
   unfolding done
   put-in-only z q h t w =
       let ok = accepted-phone l a in
-      let unmarked : T (not (has-valid-operator (decode l .trust) 0)) = subst T (sym h ∙ ap not q) tt in
+      let unmarked : T (not (any marked-operator (decode l .trust .certificates))) = subst T (sym h ∙ ap not q) tt in
       handled-still z (card-still (decode l) ok e z unmarked) t (w ∙ ap encode (sym (card-idle (decode l) ok e unmarked)))

@@ -5,10 +5,9 @@ use lib.Dec.{T, eqb, eqb→eq}
 use Rattle.records.specs.Phone.{Phone, with-card}
 use Rattle.records.specs.declared.Event.{Event}
 use Rattle.rules.specs.Words.{any}
-use Rattle.rules.specs.ImageRules.{has-valid-operator}
 use Rattle.rules.specs.Forms.{with-kind}
 use Rattle.rules.specs.Codes.{code-of, card-wrong}
-use Rattle.rules.specs.Effects.{effect, changed, settle, card-rule, card-in, tick, power-up, card-out}
+use Rattle.rules.specs.Effects.{marked-operator, effect, changed, settle, card-rule, card-in, tick, power-up, card-out}
 use Rattle.rules.proofs.Accepted.{Accepted}
 use Rattle.rules.proofs.Tests.{eq→eqb}
 use Rattle.keeping.proofs.Unrefused.{unrefused}
@@ -20,8 +19,8 @@ module _ (p : Phone) (ok : Accepted p) (e : Event) where
   unfolding changed effect tick
   tick-still h = later-still p ok (e .key) h
 
-  -- no operator root on the phone is valid: all that the event does is to put the card in
-  pub card-idle : T (not (has-valid-operator (p .trust) 0)) → effect (with-kind 2 e) p ≡ with-card (e .second) p
+  -- no operator root on the phone is marked valid: all that the event does is to put the card in
+  pub card-idle : T (not (any marked-operator (p .trust .certificates))) → effect (with-kind 2 e) p ≡ with-card (e .second) p
   unfolding effect card-in
   card-idle h = rule-idle p ok (e .second) h
 
@@ -36,7 +35,7 @@ module _ (p : Phone) (ok : Accepted p) (e : Event) where
       go true h = tt
       go false h = absurd h
 
-  pub card-still : code-of p (with-kind 2 e) ≡ 0 → T (not (has-valid-operator (p .trust) 0)) → changed (with-kind 2 e) p ≡ effect (with-kind 2 e) p
+  pub card-still : code-of p (with-kind 2 e) ≡ 0 → T (not (any marked-operator (p .trust .certificates))) → changed (with-kind 2 e) p ≡ effect (with-kind 2 e) p
   unfolding changed
   card-still z h = ap settle (card-idle h) ∙ come-still p ok (e .second) (none-present z) ∙ sym (card-idle h)
 

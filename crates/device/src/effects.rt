@@ -24,7 +24,7 @@ fn card_rule(s: &mut [u8])
     handling::retire(s, owned, operator);
 }
 
-// 2 card in without its card rule: all of it where no operator root on the phone is valid.
+// 2 card in without its card rule: all of it where no operator root on the phone is marked valid.
 pub fn card_only(s: &mut [u8], e: Event)
     requires { ⌜ Framed (now s) ⌝ }
     ensures { λ _. ⌜ now (s .exit) ≡ encode (with-card (e .second) (decode (now (s .entry)))) ⌝ }

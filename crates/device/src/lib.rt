@@ -34,8 +34,8 @@ pub fn card_in(s: &mut [u8], e: Event) -> Answer
     if code != 0 {
         return handling::refused(code);
     }
-    // With no mark to fall, more records are present and all others stay as they are.
-    if !lookup::has_valid_operator(s, 0) {
+    // With no mark to fall, past its date or not, more records are present and all others stay as they are.
+    if !lookup::has_marked_operator(s) {
         effects::card_only(s, e);
         return handling::done(0, 0);
     }

@@ -40,7 +40,7 @@ no-reason t c o z =
     let on : c .enabled ≡ 1 = omega (arith, neqb→ne (c .enabled) 0 (others .1 .1 .0), o .enabled) in
     let dated : T (in-date (t .seen .clock) c) = not-elim (in-date (t .seen .clock) c) (others .1 .1 .1 .0) in
     let verified : T (signed t c) = not-elim (signed t c) (others .1 .1 .1 .1 .0) in
-    by-test (eqb (c .kind) 0) (λ root. search tests)
+    by-test (eqb (c .kind) 0) (λ root. search tests depth 8)
     (λ nr. let issued : c .kind ≡ 1 = omega (arith, neqb→ne (c .kind) 0 nr, neqb→ne (c .kind) 2 (w .0), o .kind) in search tests)
 
 module _ (cards : List Card) (t : Trust) (h : Held cards (t .certificates)) where

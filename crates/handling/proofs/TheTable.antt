@@ -13,12 +13,13 @@ use Rattle.rules.specs.Forms.{executable-form, action-form, replace-form, malfo
 use Rattle.rules.specs.Codes.{code-of, subject, recovery-named}
 use Rattle.rules.specs.Codes.{id-unknown, actor-barred, time-back, card-unknown, card-wrong, card-away, id-taken, key-elsewhere}
 use Rattle.rules.specs.Codes.{install-of-other, mark-of-other, no-such-root, another-valid, no-free-slot, table-byte, never, not-permitted}
-use Rattle.rules.specs.Codes.{may-replace, cannot-replace}
+use Rattle.rules.specs.Codes.{may-replace, cannot-replace, out-of-date}
 
 -- the table and its tests under one name: with a line `unfolding the-table` they compute at a known kind
 unfoldable pub the-table : Unit {0}
 unfolding first code-of malformed subject recovery-named acts-for id-unknown actor-barred time-back card-unknown card-wrong card-away id-taken key-elsewhere
     install-of-other mark-of-other no-such-root another-valid no-free-slot table-byte never not-permitted may-replace cannot-replace
+    out-of-date
     clock-form card-form card-in-form card-out-form install-form id-form message-form executable-form action-form replace-form new-certificate
 the-table = tt
 

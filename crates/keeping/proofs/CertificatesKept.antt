@@ -5,7 +5,7 @@ use mathlib.Core.List.{map, List·Memᴰ}
 use mathlib.Core.Logic.{_≢_}
 use mathlib.Core.Path.{_≡_, refl, subst, sym, _∙_}
 use native.Mathlib.Omega.{arith}
-use lib.Dec.{T, eqb, not-T, eqb→eq}
+use lib.Dec.{T, eqb, not-T, eqb→eq, nltb→le}
 use Rattle.records.specs.Phone.{Phone}
 use Rattle.records.specs.declared.Certificate.{Certificate}
 use Rattle.records.specs.declared.Event.{Event}
@@ -13,14 +13,14 @@ use Rattle.rules.specs.Words.{any, change}
 use Rattle.rules.specs.ImageRules.{known-place, operator-of, operator-root}
 use Rattle.rules.specs.Forms.{with-kind, new-certificate, install-form}
 use Rattle.rules.specs.Codes.{has-id, certificate-named, certificate-known, subject, recovery-named, rival, in-another}
-use Rattle.rules.specs.Codes.{id-unknown, card-unknown, id-taken, key-elsewhere, install-of-other, mark-of-other, no-such-root, another-valid}
+use Rattle.rules.specs.Codes.{id-unknown, time-back, card-unknown, id-taken, key-elsewhere, install-of-other, mark-of-other, no-such-root, another-valid}
 use Rattle.rules.specs.Codes.{may-replace, cannot-replace}
 use Rattle.rules.specs.Effects.{tick, card-in, card-out, power-up, install-certificate, delete-certificate, after-marking, mark-valid, mark-invalid, message}
 use Rattle.rules.specs.Effects.{replaced, replace, effect}
 use Rattle.rules.proofs.Tests.{tests, eq→eqb, ne→neqb, nand, not-elim}
 use Rattle.rules.proofs.Lists.{none-out}
 use Rattle.rules.proofs.Fits.{occupied-out}
-use Rattle.rules.proofs.Roots.{valid-any-time, valid-kind, valid-domain, valid-mark}
+use Rattle.rules.proofs.Roots.{valid-earlier, valid-kind, valid-domain, valid-mark}
 use Rattle.rules.proofs.Accepted.{Valid, Kept}
 use Rattle.keeping.proofs.ByKind.{the-effects, by-kind}
 use Rattle.keeping.proofs.Unrefused.{Unrefused, id-formed, replace-formed, replaceable}
@@ -53,9 +53,9 @@ unless-is a x y h k = eqb→eq x y (not-elim (eqb x y) (nand a (not (eqb x y)) h
 -- ---- each kind
 
 module _ (p : Phone) (ok : Kept (p .cards) (p .trust)) where
-  kept-clock : (e : Event) → Kept (p .cards) (tick e p .trust)
+  kept-clock : (e : Event) → p .trust .seen .clock ≤ e .key → Kept (p .cards) (tick e p .trust)
   unfolding tick
-  kept-clock e = keep-clock (p .cards) (p .trust) (e .key) (λ d c. valid-any-time d (e .key) (p .trust .seen .clock) c) ok
+  kept-clock e h = keep-clock (p .cards) (p .trust) (e .key) (λ d c. valid-earlier d (p .trust .seen .clock) (e .key) c h) ok
 
   kept-card-in : (e : Event) → T (known-place (p .cards) (e .second)) → Kept (p .cards) (card-in e p .trust)
   unfolding card-in
@@ -175,11 +175,11 @@ module _ (p : Phone) (ok : Kept (p .cards) (p .trust)) where
   kept-message e = keep-message (p .cards) (p .trust) e ok
 
   pub kept-effect : (e : Event) → Unrefused p e → Kept (p .cards) (effect e p .trust)
-  unfolding the-effects card-unknown
+  unfolding the-effects card-unknown time-back
   kept-effect e t =
       by-kind (λ k. Unrefused p (with-kind k e) → Kept (p .cards) (effect (with-kind k e) p .trust))
       (record {
-        clock = λ t. kept-clock (with-kind 1 e);
+        clock = λ t. kept-clock (with-kind 1 e) (nltb→le (e .key) (p .trust .seen .clock) (t .forward));
         card-in = λ t. kept-card-in (with-kind 2 e) (not-elim (known-place (p .cards) (e .second)) (t .in-table));
         card-out = λ t. kept-card-out (with-kind 3 e);
         power-up = λ t. kept-power-up (with-kind 4 e) (not-elim (known-place (p .cards) (e .second)) (t .in-table));

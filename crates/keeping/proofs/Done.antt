@@ -11,7 +11,7 @@ use Rattle.rules.specs.Forms.{forms, no-form, malformed}
 use Rattle.rules.specs.Actors.{may-act, acts-for}
 use Rattle.rules.specs.Codes.{id-unknown, actor-barred, time-back, card-unknown, card-wrong, card-away, id-taken, key-elsewhere}
 use Rattle.rules.specs.Codes.{install-of-other, mark-of-other, no-such-root, another-valid, no-free-slot, never, not-permitted}
-use Rattle.rules.specs.Codes.{cannot-replace, refusals, code-of}
+use Rattle.rules.specs.Codes.{cannot-replace, out-of-date, refusals, code-of}
 use Rattle.rules.specs.Effects.{effect, settle, changed}
 use Rattle.rules.proofs.Tests.{and-i, not-intro, neqb→ne, first-in}
 use Rattle.keeping.proofs.After.{after}
@@ -20,7 +20,7 @@ use Rattle.keeping.proofs.Unrefused.{Unrefused, unrefused}
 -- every test of the table under one name: with a line `unfolding the-tests` they compute at a known kind
 unfoldable pub the-tests : Unit {0}
 unfolding id-unknown actor-barred time-back card-unknown card-wrong card-away id-taken key-elsewhere
-    install-of-other mark-of-other no-such-root another-valid no-free-slot never not-permitted cannot-replace may-act acts-for all-zero
+    install-of-other mark-of-other no-such-root another-valid no-free-slot never not-permitted cannot-replace out-of-date may-act acts-for all-zero
 the-tests = tt
 
 -- an event by one of the five actors to which no refusal applies is done
@@ -29,7 +29,7 @@ unfolding code-of malformed
 unrefused-done p e a t =
     let form = getD forms (e .kind) no-form p e in
     let formed : T (not (malformed p e)) = not-intro (leb (e .actor) 4 && form) (and-i (leb (e .actor) 4) form a (t .formed)) in
-    first-in (refusals p e) (search formed depth 20)
+    first-in (refusals p e) (search formed depth 21)
 
 -- the phone after an event that is done or refused
 pub after-cases : (P : Phone → Type 0) (e : Event) (p : Phone) → (Unrefused p e → P (settle (effect e p)))

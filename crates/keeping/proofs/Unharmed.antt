@@ -12,7 +12,7 @@ use Rattle.rules.specs.Chains.{present, in-date, valid-root, trusted-root, link
 use Rattle.rules.specs.ImageRules.{valid-in}
 use Rattle.rules.proofs.Tests.{tests, or-cases}
 use Rattle.rules.proofs.Accepted.{Valid}
-use Rattle.rules.proofs.Roots.{Like, valid-root-of, valid-mark, valid-any-time, valid-like}
+use Rattle.rules.proofs.Roots.{Like, valid-root-of, valid-mark, valid-earlier, valid-like}
 
 -- ---- the tests, part by part
 
@@ -110,7 +110,7 @@ wider-trusted q p c w h =
     let t = trusted-out q c h in
     trusted-in p c
     (record {
-      valid = valid-any-time (c .domain) (q .clock) (p .clock) c (t .valid);
+      valid = valid-earlier (c .domain) (p .clock) (q .clock) c (w .clock) (t .valid);
       enabled = t .enabled;
       present = wider-present q p c w (t .present);
     })

@@ -11,7 +11,8 @@ use Rattle.records.specs.declared.Event.{Event}
 use Rattle.rules.specs.Forms.{forms, no-form, malformed, id-form, action-form, replace-form}
 use Rattle.rules.specs.Codes.{refusals, code-of}
 use Rattle.rules.specs.Codes.{id-unknown, actor-barred, time-back, card-unknown, card-wrong, card-away, id-taken, key-elsewhere}
-use Rattle.rules.specs.Codes.{install-of-other, mark-of-other, no-such-root, another-valid, no-free-slot, never, not-permitted, may-replace, cannot-replace}
+use Rattle.rules.specs.Codes.{install-of-other, mark-of-other, no-such-root, another-valid, no-free-slot, never, not-permitted}
+use Rattle.rules.specs.Codes.{may-replace, cannot-replace, out-of-date}
 use Rattle.rules.proofs.Tests.{tests, and-r, not-elim, first-out}
 
 -- no refusal applied
@@ -33,6 +34,7 @@ pub record Unrefused (p : Phone) (e : Event) : Type 0 where
   pub table-open : T (not (never p e))
   pub permitted : T (not (not-permitted p e))
   pub replaces : T (not (cannot-replace p e))
+  pub dated : T (not (out-of-date p e))
 
 well-formed : (p : Phone) (e : Event) → T (not (malformed p e)) → T (getD forms (e .kind) no-form p e)
 unfolding malformed
@@ -61,6 +63,7 @@ unrefused p e h =
       table-open = search w depth 20;
       permitted = search w depth 20;
       replaces = search w depth 20;
+      dated = search w depth 21;
     }
 
 -- "Where a kind names an id, 0 is out of range."

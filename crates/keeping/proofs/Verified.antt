@@ -115,6 +115,7 @@ verify-done p n nz k =
       table-open = tt;
       permitted = tt;
       replaces = tt;
+      dated = tt;
     })
 
 pub verify-effect : (p : Phone) (e : Event) → e .kind ≡ 12 → effect e p ≡ one-verified (e .id) p

@@ -11,6 +11,7 @@ ghost use Rattle.lookup.specs.RecordFound.{found};
 ghost use Rattle.records.specs.Frame.{Framed};
 ghost use Rattle.records.specs.Phone.{decode};
 ghost use Rattle.rules.specs.Codes.{has-id, in-another, is-executable};
+ghost use Rattle.rules.specs.Effects.{marked-operator};
 ghost use Rattle.rules.specs.ImageRules.{has-valid-operator, in-card-table, known-place, operator-of, valid-in};
 ghost use Rattle.rules.specs.Words.{any, first-place};
 
@@ -243,6 +244,22 @@ fn valid_operator(clock: u32, place: u16, c: Certificate) -> bool
         return false;
     }
     c.place == place
+}
+
+// Whether an operator root on the phone is marked valid, past its date or not.
+pub fn has_marked_operator(s: &[u8]) -> bool
+    requires { ⌜ Framed (now s) ⌝ }
+    ensures { λ r. ⌜ r ≡ any marked-operator (decode (now (s .entry)) .trust .certificates) ⌝ }
+{
+    let slots = image::certificate_slots(s);
+    let mut i: usize = 0;
+    while i < slots {
+        if terms::is_marked_operator(image::certificate(s, i)) {
+            return true;
+        }
+        i += 1;
+    }
+    false
 }
 
 // Whether a place "has a valid-marked operator root".

@@ -39,7 +39,7 @@ use Rattle.monitor.specs.Told.{answer-size, answer-bytes, answer-from, a
 
 -- no code is above this one
 abbrev highest-code : ℕ
-highest-code = 17
+highest-code = 18
 
 pub record Small (a : Answer) : Type 0 where
   pub code : a .code ≤ highest-code

@@ -16,11 +16,11 @@ present s c = eqb (c .place) 0 || eqb (c .place) (s .card)
 unfoldable pub in-date : ℕ → Certificate → Bool
 in-date clock c = leb clock (c .expiry)
 
--- a root that is marked valid, whatever the clock says
+-- 02, item 5: "valid" of a root "means marked valid and not past its date"
 unfoldable pub valid-root : ℕ → Certificate → Bool
-valid-root clock c = eqb (c .kind) 0 && eqb (c .mark) 1
+valid-root clock c = eqb (c .kind) 0 && eqb (c .mark) 1 && in-date clock c
 
--- "A trusted root is a present root with mark 1 and enabled 1."
+-- "A trusted root is a present root with mark 1 and enabled 1." It "now also needs clock ≤ expiry".
 unfoldable pub trusted-root : Seen → Certificate → Bool
 trusted-root s c = valid-root (s .clock) c && eqb (c .enabled) 1 && present s c
 

@@ -12,7 +12,7 @@ use Rattle.records.specs.declared.Certificate.{Certificate}
 use Rattle.records.specs.declared.Executable.{Executable}
 use Rattle.records.specs.declared.Event.{Event}
 use Rattle.rules.specs.Words.{between, any, find, Check, _⇒_, first}
-use Rattle.rules.specs.Chains.{present, valid-root}
+use Rattle.rules.specs.Chains.{present, in-date, valid-root}
 use Rattle.rules.specs.ImageRules.{accepted, free-certificate, free-executable, known-place, operator-of, operator-root, third-party-root}
 use Rattle.rules.specs.Actors.{may-act, acts-for}
 use Rattle.rules.specs.Forms.{new-certificate, listed, malformed}
@@ -178,6 +178,12 @@ may-replace e r s =
 unfoldable pub cannot-replace : Phone → Event → Bool
 cannot-replace p e = eqb (e .kind) 16 && not (may-replace e (subject p e) (recovery-named p e))
 
+-- 18: "mark valid or replace with an expiry below the clock": the root's own, and the event's
+unfoldable pub out-of-date : Phone → Event → Bool
+out-of-date p e =
+    (eqb (e .kind) 7 && not (in-date (p .trust .seen .clock) (subject p e)))
+    || (eqb (e .kind) 16 && ltb (e .expiry) (p .trust .seen .clock))
+
 -- ---- "The lowest that applies is given."
 
 -- for an event of the right length on an accepted image
@@ -200,6 +206,7 @@ refusals p e =
     ∷ (never p e ⇒ 15)
     ∷ (not-permitted p e ⇒ 16)
     ∷ (cannot-replace p e ⇒ 17)
+    ∷ (out-of-date p e ⇒ 18)
     ∷ []
 
 unfoldable pub code-of : Phone → Event → ℕ

@@ -16,7 +16,7 @@ use Rattle.rules.specs.Forms.{executable-form, action-form, replace-form
 use Rattle.rules.specs.Codes.{certificate-named, executable-named, certificate-known, executable-known, subject, recovery-named, id-unknown, actor-barred}
 use Rattle.rules.specs.Codes.{time-back, card-unknown, card-wrong, card-away, id-taken, key-elsewhere, install-of-other, mark-of-other}
 use Rattle.rules.specs.Codes.{no-such-root, rival, another-valid, no-free-slot, table-byte, never, not-permitted, may-replace}
-use Rattle.rules.specs.Codes.{cannot-replace, code-of, code}
+use Rattle.rules.specs.Codes.{cannot-replace, out-of-date, code-of, code}
 use Rattle.rules.specs.Effects.{retired, card-rule, tick, card-in, card-out, power-up, install-certificate, delete-certificate, on-a-card}
 use Rattle.rules.specs.Effects.{after-marking, mark-valid, mark-invalid, enabled-by, message, install-executable, delete-executable, verify}
 use Rattle.rules.specs.Effects.{give, withdraw, request, replace, effect, settled, settle, changed}
@@ -32,7 +32,7 @@ unfolding be digit put-digit decode encode header-of framed header-fits first-wr
     clock-form card-form card-in-form card-out-form install-form id-form message-form executable-form action-form replace-form no-form malformed
     certificate-named executable-named certificate-known executable-known subject recovery-named id-unknown actor-barred time-back card-unknown card-wrong
     card-away id-taken key-elsewhere install-of-other mark-of-other no-such-root rival another-valid no-free-slot table-byte never
-    not-permitted may-replace cannot-replace code-of code retired card-rule tick card-in card-out power-up install-certificate delete-certificate on-a-card
-    after-marking mark-valid mark-invalid enabled-by message install-executable delete-executable verify give withdraw request replace effect
+    not-permitted may-replace cannot-replace out-of-date code-of code retired card-rule tick card-in card-out power-up install-certificate delete-certificate
+    on-a-card after-marking mark-valid mark-invalid enabled-by message install-executable delete-executable verify give withdraw request replace effect
     settled settle changed refusal done step run answers grants withdrawing giving
 computing = tt

@@ -20,6 +20,10 @@ use Rattle.rules.specs.Codes.{has-id, is-executable, certificate-named}
 abbrev pub phone-operator-root : Certificate → Bool
 phone-operator-root c = operator-root c && eqb (c .place) 0
 
+-- one that is marked valid, past its date or not
+abbrev pub marked-operator : Certificate → Bool
+marked-operator c = phone-operator-root c && eqb (c .mark) 1
+
 -- ---- the card rule
 
 -- "if the present card has a valid-marked operator root, every operator root on the phone is marked invalid; otherwise every one on the phone whose

@@ -1,10 +1,10 @@
--- 01, "One run of bench, whole", computed from its bytes, and the ten boundaries that 01 marks P. Assumes nothing.
+-- 01, "One run of bench, whole", computed from its bytes, the ten boundaries that 01 marks P, and the two that 02, item 5, adds. Assumes nothing.
 use Prim.Native.Nat.{ℕ}
 use mathlib.Core.Bool.{true}
 use mathlib.Core.List.{List, [], _∷_, _++_, map}
 use mathlib.Core.Path.{_≡_, refl}
 use lib.ListN.{length, getD, take}
-use Rattle.octets.specs.Octets.{bytes}
+use Rattle.octets.specs.Octets.{bytes, put}
 use Rattle.records.specs.Phone.{decode}
 use Rattle.rules.specs.declared.Answer.{Answer}
 use Rattle.rules.specs.ImageRules.{accepted}
@@ -92,7 +92,7 @@ chains-image =
     ++ bytes 24 0x0004_0000_01_03_01_01_00000004_00000003_00000000_00000064
     ++ bytes 24 0x0003_0000_01_03_01_01_00000003_00000002_00000000_00000064
     ++ bytes 24 0x0002_0000_01_03_01_01_00000002_00000001_00000000_00000064
-    ++ bytes 24 0x0001_0000_00_03_01_01_00000001_00000000_00000000_00000000
+    ++ bytes 24 0x0001_0000_00_03_01_01_00000001_00000000_00000000_00000064
     ++ bytes 24 0x0006_0000_01_03_01_01_00000006_00000007_00000000_00000064
     ++ bytes 24 0x0007_0000_01_03_01_01_00000007_00000006_00000000_00000064
     ++ bytes 12 0x0001_00_00_00000004_00000000
@@ -123,7 +123,22 @@ in-the-run n a = record { start = image; before = take n events; event = getD ev
 abbrev pub at-a-chain : List ℕ → Answer → Boundary
 at-a-chain v a = record { start = chains-image; before = []; event = v; expected = a }
 
--- "events 1, 3, 5, 6, 8, 11, 13 above; a chain of 4 (links 4) and of 5 (none); two issued records verifying each other (none)"
+-- 01's image with root 10 that expires at 150, and the clock there, and a second later
+abbrev pub short-root : List ℕ
+short-root = put image 60 (bytes 4 150)
+
+abbrev pub clock-150 : List ℕ
+clock-150 = bytes 24 0x01_00_0000_0000_00_00_00000096_00000000_00000000_00000000
+
+abbrev pub clock-151 : List ℕ
+clock-151 = bytes 24 0x01_00_0000_0000_00_00_00000097_00000000_00000000_00000000
+
+-- executable 1 asks for action 1 behind a clock event
+abbrev pub with-short-root : List ℕ → Answer → Boundary
+with-short-root clock a = record { start = short-root; before = clock ∷ []; event = getD events 0 []; expected = a }
+
+-- "events 1, 3, 5, 6, 8, 11, 13 above; a chain of 4 (links 4) and of 5 (none); two issued records verifying each other (none)";
+-- 02, item 5: "the root at its last second and one later"
 abbrev pub boundaries : List Boundary
 boundaries =
     in-the-run 0 (told 0 1 2)
@@ -136,6 +151,8 @@ boundaries =
     ∷ at-a-chain verify-1 (told 0 3 4)
     ∷ at-a-chain verify-2 (told 0 0 0)
     ∷ at-a-chain verify-3 (told 0 0 0)
+    ∷ with-short-root clock-150 (told 0 1 2)
+    ∷ with-short-root clock-151 (told 15 0 0)
     ∷ []
 
 -- what the rules tell it
@@ -146,13 +163,27 @@ pub chains-image-accepted : accepted chains-image ≡ true
 unfolding computing
 chains-image-accepted = refl
 
-pub ten-boundaries : length boundaries ≡ 10
-ten-boundaries = refl
+pub short-root-accepted : accepted short-root ≡ true
+unfolding computing put
+short-root-accepted = refl
 
--- "These ten are shown to hold for the written rules, as one list under one claim."
+pub twelve-boundaries : length boundaries ≡ 12
+twelve-boundaries = refl
+
+-- "These .. are shown to hold for the written rules, as one list under one claim."
 pub boundaries-hold : map heard boundaries ≡ map (λ b. b .expected) boundaries
-unfolding computing
+unfolding computing put
 boundaries-hold = refl
+
+-- "Marks are not touched when a date passes.": root 10 a second later
+pub mark-stays : certificate-named (decode (run short-root (clock-151 ∷ []))) 10 .mark ≡ 1
+unfolding computing put
+mark-stays = refl
+
+-- the card rule's effect is on every operator root on the phone, past its date or not: card 2 comes, and takes that mark
+pub expired-mark-goes : certificate-named (decode (run short-root (clock-151 ∷ getD events 8 [] ∷ []))) 10 .mark ≡ 0
+unfolding computing put
+expired-mark-goes = refl
 
 -- ---- a trap that neither the run nor the boundaries meet
 

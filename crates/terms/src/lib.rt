@@ -13,7 +13,7 @@ ghost use mathlib.Core.Path.{_≡_};
 ghost use Rattle.records.specs.Frame.{Framed};
 ghost use Rattle.records.specs.Phone.{decode};
 ghost use Rattle.rules.specs.Chains.{in-date, present, valid-root};
-ghost use Rattle.rules.specs.Effects.{phone-operator-root, on-a-card};
+ghost use Rattle.rules.specs.Effects.{phone-operator-root, marked-operator, on-a-card};
 ghost use Rattle.rules.specs.ImageRules.{card-fits, certificate-fits, certificate-ranges, issued-fits, recovery-fits, root-fits};
 ghost use Rattle.rules.specs.ImageRules.{executable-fits, key-of-one-domain, executable-slot-fits, row-fits, third-party-root, valid-in, zero-executable};
 ghost use Rattle.rules.specs.ImageRules.{slot-fits, zero-certificate};
@@ -174,11 +174,11 @@ pub fn in_date(clock: u32, c: Certificate) -> bool
     clock <= c.expiry
 }
 
-// A root that is marked valid. The clock has no say yet.
+// A root that is marked valid and not past its date.
 pub fn valid_root(clock: u32, c: Certificate) -> bool
     ensures { λ r. ⌜ r ≡ valid-root clock c ⌝ }
 {
-    (c.kind == Certificate::ROOT) & (c.mark == Certificate::VALID)
+    (c.kind == Certificate::ROOT) & (c.mark == Certificate::VALID) & in_date(clock, c)
 }
 
 // A valid root of domain d.
@@ -201,6 +201,13 @@ pub fn is_phone_operator_root(c: Certificate) -> bool
     ensures { λ r. ⌜ r ≡ phone-operator-root c ⌝ }
 {
     (c.kind == Certificate::ROOT) & (c.domain == records::OPERATOR) & (c.place == 0)
+}
+
+// The same, marked valid, past its date or not.
+pub fn is_marked_operator(c: Certificate) -> bool
+    ensures { λ r. ⌜ r ≡ marked-operator c ⌝ }
+{
+    is_phone_operator_root(c) & (c.mark == Certificate::VALID)
 }
 
 // "A card's operator root": marking it valid takes the phone's marks.

@@ -340,6 +340,9 @@ one-terms-is-third-party-root κs a r r′ e e′ = returned
 pub one-terms-is-phone-operator-root : One-result Rattle.terms.proofs.is_phone_operator_root.Reads.Learnt
 one-terms-is-phone-operator-root κs a r r′ e e′ = returned
 
+pub one-terms-is-marked-operator : One-result Rattle.terms.proofs.is_marked_operator.Reads.Learnt
+one-terms-is-marked-operator κs a r r′ e e′ = returned
+
 pub one-terms-on-a-card : One-result Rattle.terms.proofs.on_a_card.Reads.Learnt
 one-terms-on-a-card κs a r r′ e e′ = returned
 
@@ -371,6 +374,9 @@ one-lookup-executable-room κs a r r′ e e′ = returned
 
 pub one-lookup-certificate-room : One-result Rattle.lookup.proofs.certificate_room.Reads.Learnt
 one-lookup-certificate-room κs a r r′ e e′ = returned
+
+pub one-lookup-has-marked-operator : One-result Rattle.lookup.proofs.has_marked_operator.Reads.Learnt
+one-lookup-has-marked-operator κs a r r′ e e′ = returned
 
 pub one-lookup-key-elsewhere : One-result Rattle.lookup.proofs.key_elsewhere.Reads.Learnt
 one-lookup-key-elsewhere κs a r r′ e e′ = returned

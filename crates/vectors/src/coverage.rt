@@ -6,10 +6,10 @@ use records::Event;
 ghost use Prim.Native.Nat.{_≤_, _<_};
 ghost use lib.ListN.{length};
 
-// Kinds 0 to 16, where 0 stands for all that are none, and codes 0 to 17; domains 0 to 3, and links 0 to 4.
+// Kinds 0 to 16, where 0 stands for all that are none, and codes 0 to 18; domains 0 to 3, and links 0 to 4.
 const KINDS: usize = 17;
 
-const CODES: usize = 18;
+const CODES: usize = 19;
 
 const DOMAINS: usize = 4;
 

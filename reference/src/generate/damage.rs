@@ -1,11 +1,12 @@
 //! Damaged images: every rule broken in each way that is known, and hurt without plan.
 //!
-//! Follows 01, "The image", and 02, "Recovery keys". Each way starts from an accepted phone; whether the wanted rule
-//! is the first one broken is asked of `image_rules` and tried again where it is not.
+//! Follows 01, "The image", and 02, "Recovery keys" and "Roots have a date as well". Each way starts
+//! from an accepted phone; whether the wanted rule is the first one broken is asked of `image_rules`
+//! and tried again where it is not.
 
 use std::collections::BTreeSet;
 
-use super::images::{accepted_phone, any_operator, Shape};
+use super::images::{accepted_phone, any_operator, expiry_in_date, Shape};
 use crate::chain::Trust;
 use crate::image_rules::{first_broken, Broken};
 use crate::phone::{
@@ -30,7 +31,7 @@ pub enum Damage {
 use Damage::{Bytes, Field, Parts};
 
 /// Every way to break a rule, with the damage that does it.
-const WAYS: [(u8, &str, Damage); 66] = [
+const WAYS: [(u8, &str, Damage); 67] = [
     (1, "stream shorter than header", Bytes(cut_in_header)),
     (1, "buffer shorter than total", Bytes(cut_in_parts)),
     (1, "total below 40 or above 2536", Field(total)),
@@ -97,6 +98,7 @@ const WAYS: [(u8, &str, Damage); 66] = [
     (8, "domain without chain", Parts(domain_without_chain)),
     (8, "domain without chain", Parts(lost_link)),
     (8, "domain without chain", Parts(link_made_recovery)),
+    (8, "domain without chain", Parts(root_past_its_date)),
 ];
 
 // The longer ways, as `image_rules` says them.
@@ -693,6 +695,14 @@ fn lost_link(random: &mut Random, phone: &mut Phone) {
     });
 }
 
+/// The clock is one second past the date of a root, whose mark stays.
+fn root_past_its_date(random: &mut Random, phone: &mut Phone) {
+    let clock = phone.clock;
+    let is_trusted = |c: &Certificate| c.is_valid_root_of(c.domain, clock) && c.enabled == 1;
+    let last_second = clock.saturating_sub(1);
+    change_one_of(random, phone, is_trusted, |c| c.expiry = last_second);
+}
+
 /// One record with its key and its domain becomes a recovery one, which is no link.
 fn link_made_recovery(random: &mut Random, phone: &mut Phone) {
     let is_meant = |c: &Certificate| !is_recovery(c) && c.domain != THIRD_PARTY;
@@ -730,7 +740,7 @@ pub fn any_card(random: &mut Random, phone: &Phone) -> Card {
     })
 }
 
-/// Puts a root into a slot that holds no root yet, over whatever is there.
+/// Puts a root in date into a slot that holds no valid one yet, over whatever is there.
 fn put_root(random: &mut Random, phone: &mut Phone, domain: u8, place: u16, owner: u32, mark: u8) {
     put(random, phone, ROOT, domain, place, owner, mark);
 }
@@ -745,8 +755,9 @@ fn put(
     mark: u8,
 ) {
     let known: Vec<u16> = phone.occupied_certificates().map(|c| c.id).collect();
+    let is_valid = |c: Certificate| c.is_valid_root_of(domain, phone.clock);
     let slots: Vec<usize> = (0..phone.certificates.len())
-        .filter(|&n| !phone.certificates[n].is_some_and(|c| c.is_valid_root_of(domain)))
+        .filter(|&n| !phone.certificates[n].is_some_and(is_valid))
         .collect();
     let (Some(slot), Some(id)) = (
         random.choose(&slots),
@@ -765,7 +776,7 @@ fn put(
         key: 5000 + u32::from(domain),
         verifying_key: 0,
         owner,
-        expiry: 0,
+        expiry: expiry_in_date(random, phone.clock),
     });
 }
 

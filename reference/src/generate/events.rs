@@ -1,8 +1,9 @@
 //! Events chosen by looking at the state they meet, so that the deeper codes occur often.
 //!
-//! Follows 01, "Events" and "What an event is told", and 02, "Recovery keys". For each event a kind
-//! and a code are aimed at; of several fitting events the first with that code is taken. The aim
-//! only steers what is tried: what the answer has to be is said by `events` alone.
+//! Follows 01, "Events" and "What an event is told", and 02, "Recovery keys" and "Roots have a date
+//! as well". For each event a kind and a code are aimed at; of several fitting events the first with
+//! that code is taken. The aim only steers what is tried: what the answer has to be is said by
+//! `events` alone.
 
 use super::images::{any_expiry, any_operator, expiry_in_date, key_at_distance};
 use super::replacements;
@@ -41,12 +42,12 @@ pub fn codes_of(kind: u8) -> &'static [u8] {
         POWER_UP => &[0, 2, 4, 6],
         INSTALL_CERTIFICATE => &[0, 2, 4, 6, 8, 9, 10, 11, 14],
         DELETE_CERTIFICATE => &[0, 2, 3, 4, 8],
-        MARK_VALID => &[0, 2, 3, 4, 8, 11, 12, 13],
+        MARK_VALID => &[0, 2, 3, 4, 8, 11, 12, 13, 18],
         MARK_INVALID => &[0, 2, 3, 4, 8, 12],
         CONFIGURATION => &[0, 2, 3, 4, 12],
         INSTALL_EXECUTABLE => &[0, 2, 4, 9, 14],
         REQUEST => &[0, 2, 3, 4, 15, 16],
-        REPLACE => &[0, 2, 3, 4, 8, 10, 11, 12, 13, 17],
+        REPLACE => &[0, 2, 3, 4, 8, 10, 11, 12, 13, 17, 18],
         DELETE_EXECUTABLE | VERIFY | GIVE | WITHDRAW => &[0, 2, 3, 4],
         _ => &[2],
     }
@@ -56,6 +57,11 @@ pub fn codes_of(kind: u8) -> &'static [u8] {
 pub fn stream(random: &mut Random, start: &Phone, count: usize, style: Style) -> Vec<u8> {
     let mut phone = start.clone();
     let mut out = Vec::new();
+    if count > 0 && style != Style::Noise && has_outlived_mark(start) && random.percent(75) {
+        let record = takes_outlived_marks(random, start).encode();
+        step(&mut phone, &record);
+        out.extend(record);
+    }
     while out.len() < count * Event::SIZE {
         let before = phone.clone();
         let record = next_event(random, &phone, style);
@@ -72,6 +78,28 @@ pub fn stream(random: &mut Random, start: &Phone, count: usize, style: Style) ->
         out.extend(short_record(random, &phone));
     }
     out
+}
+
+/// An event that may take the marks that operator roots on the phone have kept beyond their dates.
+/// The first of them takes all, so that the rarer ones have to come before any other.
+fn takes_outlived_marks(random: &mut Random, phone: &Phone) -> Event {
+    let mut on_card = all_certificates(phone);
+    on_card.retain(|c| c.is_valid_root_of(OPERATOR, phone.clock));
+    on_card.retain(|c| c.place != 0 && phone.is_present(c.place));
+    let valid_on_card = random.choose(&on_card);
+    let kind = match (random.below(4), valid_on_card) {
+        (0 | 1, Some(_)) => MARK_VALID,
+        (2, _) if phone.card_present == 0 => CARD_IN,
+        _ => POWER_UP,
+    };
+    let mut event = candidate(random, phone, kind);
+    match (kind, valid_on_card) {
+        (POWER_UP, _) if random.percent(70) => event.second = phone.card_present,
+        (MARK_VALID, Some(root)) => event.id = root.id,
+        _ => {}
+    }
+    event.actor = allowed_actor(random, phone, &event);
+    event
 }
 
 /// Requests and verifies on executables that an event has touched: `bench` prints no state, so
@@ -161,9 +189,11 @@ fn noise(random: &mut Random) -> Vec<u8> {
 /// An event of a chosen kind with a chosen code, where the state lets one be found.
 fn aimed(random: &mut Random, phone: &Phone) -> Event {
     let kind = any_kind(random);
-    let aim = match random.percent(45) {
-        true => 0,
-        false => random.choose(codes_of(kind)).unwrap_or(0),
+    let has_dates = matches!(kind, MARK_VALID | REPLACE);
+    let aim = match random.below(20) {
+        0..=8 => 0,
+        9 | 10 if has_dates => 18,
+        _ => random.choose(codes_of(kind)).unwrap_or(0),
     };
     let mut event = candidate(random, phone, kind);
     for _ in 0..TRIES {
@@ -175,6 +205,7 @@ fn aimed(random: &mut Random, phone: &Phone) -> Event {
             2 => spoil_form(random, phone, &mut event),
             3 => spoil_id(random, phone, &mut event),
             4 => spoil_actor(random, phone, &mut event),
+            18 if kind == MARK_VALID => name_old_root(random, phone, &mut event),
             _ => {}
         }
         if code_of(phone, &event) == aim {
@@ -193,8 +224,8 @@ pub fn candidate(random: &mut Random, phone: &Phone, kind: u8) -> Event {
     };
     match kind {
         CLOCK => event.key = any_new_time(random, phone),
-        CARD_IN => event.second = any_card_number(random, phone).max(1),
-        POWER_UP => event.second = any_card_number(random, phone),
+        CARD_IN => event.second = card_to_bring(random, phone).max(1),
+        POWER_UP => event.second = card_to_bring(random, phone),
         INSTALL_CERTIFICATE => plan_certificate(random, phone, &mut event),
         DELETE_CERTIFICATE | MARK_VALID | MARK_INVALID => {
             event.id = any_certificate_id(random, phone, kind)
@@ -232,11 +263,17 @@ pub(super) fn allowed_actor(random: &mut Random, phone: &Phone, event: &Event) -
     random.choose(actors).unwrap_or(anybody)
 }
 
-/// The clock, the next expiry and what lies beside them.
+/// The clock, the next expiry and what lies beside them. A root's date ends more than that of one
+/// record, so it is not always the next one that counts; one that is far off ends almost everything.
 fn any_new_time(random: &mut Random, phone: &Phone) -> u32 {
+    let kind = random.one_of([ISSUED, ROOT]);
+    let most = match random.percent(4) {
+        true => u32::MAX - 1,
+        false => phone.clock.saturating_add(1000),
+    };
     let next_expiry = phone
         .occupied_certificates()
-        .filter(|c| c.kind == ISSUED && c.expiry >= phone.clock && c.expiry < u32::MAX)
+        .filter(|c| c.kind == kind && (phone.clock..=most).contains(&c.expiry))
         .map(|c| c.expiry)
         .min()
         .unwrap_or(phone.clock);
@@ -253,6 +290,28 @@ fn any_new_time(random: &mut Random, phone: &Phone) -> u32 {
             false => phone.clock.saturating_add(1),
         },
     }
+}
+
+/// Any card. Now and then it is one with an operator root in its last second, or with one that has
+/// kept its mark beyond its date, since it is by the date that the card rule looks at it; or the
+/// one that is in, which takes such marks on the phone all the same.
+fn card_to_bring(random: &mut Random, phone: &Phone) -> u16 {
+    let mut records = all_certificates(phone);
+    records.retain(|c| c.is_root_of(OPERATOR) && c.place != 0 && c.mark == 1);
+    records.retain(|c| c.expiry <= phone.clock);
+    let brought = match random.below(8) {
+        0 | 1 => random.choose(&records).map(|c| c.place),
+        2 | 3 if has_outlived_mark(phone) => Some(phone.card_present),
+        _ => None,
+    };
+    brought.unwrap_or_else(|| any_card_number(random, phone))
+}
+
+/// Whether an operator root on the phone has kept its mark beyond its date.
+fn has_outlived_mark(phone: &Phone) -> bool {
+    phone.occupied_certificates().any(|c| {
+        c.is_root_of(OPERATOR) && c.place == 0 && c.mark == 1 && !c.is_in_date(phone.clock)
+    })
 }
 
 fn any_card_number(random: &mut Random, phone: &Phone) -> u16 {
@@ -285,6 +344,15 @@ fn any_certificate_id(random: &mut Random, phone: &Phone, kind: u8) -> u16 {
             _ => {}
         }
     }
+    // A card's root that is valid already takes marks beyond their dates from the phone.
+    if kind == MARK_VALID && has_outlived_mark(phone) && random.percent(30) {
+        let mut on_card = records.clone();
+        on_card.retain(|c| c.is_valid_root_of(OPERATOR, phone.clock));
+        on_card.retain(|c| c.place != 0 && c.place == phone.card_present);
+        if let Some(root) = random.choose(&on_card) {
+            return root.id;
+        }
+    }
     // Roots that come back keep chains alive; invalid ones are the more interesting to mark.
     if kind == MARK_VALID && random.percent(60) {
         records.retain(|c| c.mark == 0);
@@ -292,6 +360,16 @@ fn any_certificate_id(random: &mut Random, phone: &Phone, kind: u8) -> u16 {
     match random.choose(&records) {
         Some(record) => record.id,
         None => unknown_id(random, &[]),
+    }
+}
+
+/// A root to mark that is past its date, marked already or not, where there is one.
+fn name_old_root(random: &mut Random, phone: &Phone, event: &mut Event) {
+    let mut records = all_certificates(phone);
+    records.retain(|c| c.kind == ROOT && !c.is_in_date(phone.clock));
+    if let Some(root) = random.choose(&records) {
+        event.id = root.id;
+        event.actor = allowed_actor(random, phone, event);
     }
 }
 
@@ -545,7 +623,10 @@ fn spoil_certificate(random: &mut Random, event: &mut Event) {
         1 => event.third = random.one_of([LAST_CERTIFICATE_KIND + 1, 255]),
         2 => event.key = 0,
         // One that it is not, often of another range.
-        3 => event.third = (event.third + random.one_of([1, 2])) % (LAST_CERTIFICATE_KIND + 1),
+        3 => {
+            let another = event.third.wrapping_add(random.one_of([1, 2]));
+            event.third = another % (LAST_CERTIFICATE_KIND + 1);
+        }
         4 => {
             event.third = ROOT;
             event.fourth = MANUFACTURER;
@@ -659,7 +740,7 @@ fn bring_operators_together(random: &mut Random, phone: &Phone, event: &mut Even
 /// One field with a value that often does not fit; several of these make several faults.
 fn hurt_one_field(random: &mut Random, phone: &Phone, event: &mut Event) {
     let record = random.choose(&all_certificates(phone));
-    match random.below(12) {
+    match random.below(13) {
         0 => spoil_actor(random, phone, event),
         1 => spoil_id(random, phone, event),
         2 => spoil_form(random, phone, event),
@@ -671,6 +752,7 @@ fn hurt_one_field(random: &mut Random, phone: &Phone, event: &mut Event) {
         8 => event.actor = random.between(0, 5) as u8,
         9 => event.second = record.map_or(0, |c| c.id),
         10 => event.verifying_key = record.map_or(0, |c| c.key),
+        11 => event.expiry = random.one_of([phone.clock, phone.clock.saturating_sub(1), 0]),
         _ => {
             event.key = random.one_of([0, u32::MAX, phone.clock, phone.clock.saturating_sub(1)]);
         }

@@ -1,8 +1,8 @@
 //! Accepted images of many sizes, by construction and one last repair.
 //!
-//! Follows 01, "The image" and "Chains", and 02, "Recovery keys": the records are chosen so that
-//! chains of every length, cycles, bad twins and recovery keys stand in them, and are then made to
-//! keep I4 and I5.
+//! Follows 01, "The image" and "Chains", and 02, "Recovery keys" and "Roots have a date as well":
+//! the records are chosen so that chains of every length, cycles, bad twins, recovery keys and roots
+//! near their date stand in them, and are then made to keep I4 and I5.
 
 use crate::chain::{Trust, MOST_LINKS};
 use crate::image_rules::first_broken_of_parts;
@@ -169,6 +169,21 @@ pub fn any_expiry(random: &mut Random, clock: u32) -> u32 {
     }
 }
 
+/// The expiry of a root: on either side of the clock often, and far off so that chains live.
+pub fn root_expiry(random: &mut Random, clock: u32) -> u32 {
+    match random.below(24) {
+        0..=2 => clock,
+        3 => clock.saturating_add(1),
+        4 | 5 => clock.saturating_add(random.between(2, 9) as u32),
+        6 | 7 => clock.saturating_sub(1),
+        8 => clock.saturating_sub(random.between(2, 60) as u32),
+        9 => 0,
+        10 => random.u32(),
+        11 => u32::MAX,
+        _ => clock.saturating_add(random.between(30, 400) as u32),
+    }
+}
+
 pub fn any_operator(random: &mut Random) -> u32 {
     random.one_of([500, 500, 500, 600, 600, 700, 0, u32::MAX, 0x0100_0000, 1])
 }
@@ -261,7 +276,7 @@ impl Maker<'_> {
             key,
             verifying_key: 0,
             owner: self.root_owner(place),
-            expiry: any_expiry(self.random, self.clock),
+            expiry: root_expiry(self.random, self.clock),
         }
     }
 
@@ -310,6 +325,7 @@ impl Maker<'_> {
                 }
             }
             (ROOT, 1, _) if of.domain == THIRD_PARTY => twin.enabled = 0,
+            (ROOT, 2, _) if self.clock > 0 => twin.expiry = self.clock - 1,
             (ROOT, ..) => twin.mark = 0,
             (_, 1, _) => twin.verifying_key = self.keys.pick_any(self.random),
             _ => twin.expiry = self.clock.saturating_sub(1),
@@ -340,7 +356,7 @@ impl Maker<'_> {
         let old_root = self
             .records
             .iter()
-            .find(|c| c.is_valid_root_of(domain) && c.enabled == 1);
+            .find(|c| c.is_valid_root_of(domain, self.clock) && c.enabled == 1);
         let mut key = match old_root {
             Some(root) => root.key,
             None => {
@@ -405,6 +421,29 @@ impl Maker<'_> {
         self.records.push(recovery);
     }
 
+    /// A root that has kept its mark beyond its date, operator roots on cards among them; on the
+    /// phone perhaps with a recovery key that can bring it a new one.
+    fn old_mark(&mut self) {
+        let domain = self
+            .random
+            .one_of([OPERATOR, OPERATOR, OPERATOR, MANUFACTURER, THIRD_PARTY]);
+        let key = self.keys.pick(self.random, domain);
+        let place = self.any_place();
+        let mut root = self.root(domain, key, place);
+        let seconds = self.random.one_of([1, 1, 1, 2, 50]);
+        root.expiry = self.clock.saturating_sub(seconds);
+        // On the phone the card rule goes by the owner, in date or not.
+        if root.place == 0 && self.random.percent(40) {
+            root.owner = any_operator(self.random);
+        }
+        self.records.push(root);
+        if domain != THIRD_PARTY && root.place == 0 && self.random.percent(50) {
+            let key = self.keys.pick_new(self.random, domain, &[key]);
+            let recovery = self.recovery(domain, key, root.owner);
+            self.records.push(recovery);
+        }
+    }
+
     /// Issued records that verify each other in a ring, one alone or up to three.
     fn cycle(&mut self, domain: u8) {
         let length = self.random.between(1, 3);
@@ -451,7 +490,7 @@ impl Maker<'_> {
             let domain = self
                 .random
                 .one_of([OPERATOR, OPERATOR, MANUFACTURER, THIRD_PARTY]);
-            match self.random.weighted(&[52, 8, 14, 26, 16]) {
+            match self.random.weighted(&[52, 8, 16, 22, 14, 14]) {
                 0 => {
                     let links = self.random.one_of([1, 2, 3, 3, 4, 4, 5, 5]);
                     self.chain(domain, links);
@@ -459,7 +498,8 @@ impl Maker<'_> {
                 1 => self.cycle(domain),
                 2 => self.card_root(),
                 3 => self.stray(domain),
-                _ => self.recovery_beside_root(),
+                4 => self.recovery_beside_root(),
+                _ => self.old_mark(),
             }
         }
         self.records.truncate(wanted);
@@ -491,26 +531,28 @@ pub(super) fn spread<T: Copy>(random: &mut Random, records: &[T], slots: usize) 
 }
 
 /// Unmarks operator and manufacturer roots until I5 holds. The present card's operator root
-/// goes before the phone's, unless it is wanted that the phone's may stay.
+/// goes before the phone's, unless it is wanted that the phone's may stay. Roots past their date
+/// keep their marks, so that valid ones stand beside marked ones.
 pub(super) fn repair_marks(phone: &mut Phone, phone_goes_first: bool) {
-    keep_one_valid(phone, |c| c.is_valid_root_of(MANUFACTURER));
+    let clock = phone.clock;
+    let is_valid_at =
+        |c: &Certificate, place| c.is_valid_root_of(OPERATOR, clock) && c.place == place;
+    keep_one_valid(phone, |c| c.is_valid_root_of(MANUFACTURER, clock));
     let numbers: Vec<u16> = phone.cards.iter().map(|card| card.number).collect();
     for place in numbers {
-        keep_one_valid(phone, |c| c.is_valid_root_of(OPERATOR) && c.place == place);
+        keep_one_valid(phone, |c| is_valid_at(c, place));
     }
     if let Some(card) = phone.present_card().copied() {
-        let on_card = |c: &Certificate| c.is_valid_root_of(OPERATOR) && c.place == card.number;
+        let on_card = |c: &Certificate| is_valid_at(c, card.number);
         if phone_goes_first {
             unmark(phone, on_card);
         }
         let card_has_one = phone.occupied_certificates().any(on_card);
         unmark(phone, |c| {
-            c.is_valid_root_of(OPERATOR)
-                && c.place == 0
-                && (card_has_one || c.owner != card.operator)
+            is_valid_at(c, 0) && (card_has_one || c.owner != card.operator)
         });
     }
-    keep_one_valid(phone, |c| c.is_valid_root_of(OPERATOR) && c.place == 0);
+    keep_one_valid(phone, |c| is_valid_at(c, 0));
 }
 
 fn unmark(phone: &mut Phone, which: impl Fn(&Certificate) -> bool) {
@@ -664,10 +706,14 @@ pub fn chain_phone(random: &mut Random, domain: u8, links: usize, with_twins: bo
     for link in 0..links {
         let key = 2000 + link as u32;
         let place = maker.present_place();
-        let record = match link {
+        let mut record = match link {
             0 => maker.root(domain, key, place),
             _ => maker.issued(domain, key, verifying_key, place),
         };
+        // A root past its date ends every chain at once.
+        if link == 0 && maker.random.percent(80) {
+            record.expiry = maker.chain_expiry();
+        }
         if with_twins {
             let twin = maker.bad_twin(&record);
             maker.records.push(twin);

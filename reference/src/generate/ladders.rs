@@ -146,14 +146,15 @@ fn strange_key(maker: &mut Maker, domain: u8) -> u32 {
     any_key(maker, &keys)
 }
 
-/// One thing to three that are wrong with a record; a root's date is not wrong, only past.
+/// One thing to three that are wrong with a record.
 fn hurt(maker: &mut Maker, record: &mut Certificate) {
-    for _ in 0..maker.random.between(1, 3) {
+    for _ in 0..maker.random.one_of([1, 2, 3, 3]) {
         match (record.kind, maker.random.below(3)) {
             // Its date is never looked at, and nothing else of it may be otherwise.
             (RECOVERY, _) => make_old(maker, record),
             (_, 0) => move_away(maker, record),
-            (ROOT, _) if record.domain == THIRD_PARTY && maker.random.percent(60) => {
+            (ROOT, 1) if maker.random.percent(20) => make_old(maker, record),
+            (ROOT, _) if record.domain == THIRD_PARTY && maker.random.percent(70) => {
                 record.enabled = 0
             }
             (ROOT, _) => record.mark = 0,

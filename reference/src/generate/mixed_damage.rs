@@ -1,19 +1,20 @@
 //! Images damaged in one, two or three ways at once, or without plan, on phones of all sizes.
 //!
-//! Follows 02, "Say where an image is wrong": what counts is which rule and which record come
-//! first where several are broken. Whether the image is still accepted is left to chance.
+//! Follows 02, "Say where an image is wrong" and "Roots have a date as well": what counts is which
+//! rule and which record come first where several are broken. Whether the image is still accepted is
+//! left to chance; it is where all that is wrong with a root is its date and nothing needs the root.
 
 use super::damage::{self, Damage};
 use super::events::{self, Style};
-use super::images::{accepted_phone, any_expiry, any_operator, Shape};
+use super::images::{accepted_phone, any_expiry, any_operator, root_expiry, Shape};
 use super::Case;
-use crate::phone::{u16_at, Certificate, Executable, Header, Phone, LARGEST_IMAGE};
+use crate::phone::{u16_at, Certificate, Executable, Header, Phone, LARGEST_IMAGE, ROOT};
 use crate::random::Random;
 
 use Damage::{Bytes, Field, Parts};
 
 /// A damage of no rule in particular: one and the same may break several rules or none.
-const OTHERS: [(&str, Damage); 22] = [
+const OTHERS: [(&str, Damage); 25] = [
     ("certificate copied", Parts(copy_certificate)),
     ("certificates exchanged", Parts(exchange_certificates)),
     ("certificate freed", Parts(free_certificate)),
@@ -22,6 +23,9 @@ const OTHERS: [(&str, Damage); 22] = [
     ("owner changed", Parts(change_owner)),
     ("mark changed", Parts(change_mark)),
     ("expiry changed", Parts(change_expiry)),
+    ("clock changed", Parts(change_clock)),
+    ("dates of roots changed", Parts(change_dates_of_roots)),
+    ("old roots marked", Parts(mark_old_roots)),
     ("card copied", Parts(copy_card)),
     ("cards exchanged", Parts(exchange_cards)),
     ("operator changed", Parts(change_operator)),
@@ -219,6 +223,36 @@ fn change_mark(random: &mut Random, phone: &mut Phone) {
 fn change_expiry(random: &mut Random, phone: &mut Phone) {
     let expiry = any_expiry(random, phone.clock);
     change_certificate(random, phone, |c| c.expiry = expiry);
+}
+
+/// To the date of a record, one second on, or one back.
+fn change_clock(random: &mut Random, phone: &mut Phone) {
+    let expiry = any_certificate(phone, random).map_or(phone.clock, |c| c.expiry);
+    phone.clock = match random.below(3) {
+        0 => expiry,
+        1 => expiry.saturating_add(1),
+        _ => phone.clock.saturating_sub(1),
+    };
+}
+
+/// About half of them get another, on either side of the clock.
+fn change_dates_of_roots(random: &mut Random, phone: &mut Phone) {
+    let clock = phone.clock;
+    for root in phone.certificates.iter_mut().flatten() {
+        if root.kind == ROOT && random.percent(50) {
+            root.expiry = root_expiry(random, clock);
+        }
+    }
+}
+
+/// A mark on a root that is past its date breaks no rule, however many there are.
+fn mark_old_roots(random: &mut Random, phone: &mut Phone) {
+    let clock = phone.clock;
+    for root in phone.certificates.iter_mut().flatten() {
+        if root.kind == ROOT && !root.is_in_date(clock) && random.percent(80) {
+            root.mark = 1;
+        }
+    }
 }
 
 fn copy_card(random: &mut Random, phone: &mut Phone) {

@@ -7,6 +7,7 @@ use super::images::{accepted_phone, Shape};
 use super::ladders::ladder_phone;
 use super::{case, chain_case, mixed_damage, stream_on, Case};
 use crate::bench::{event_records, split_stream};
+use crate::events::{step, CARD_IN, POWER_UP};
 use crate::phone::Phone;
 use crate::random::Random;
 use crate::why::{phone_after, Question};
@@ -46,12 +47,22 @@ pub fn questions(seed: u64, number: u64) -> Questions {
     Questions { case, events, ids }
 }
 
+/// Keys in levels, and events that now and then begin with a card: `why` alone shows whose mark it
+/// takes where that root is past its date.
 fn ladder_case(random: &mut Random, most_events: usize) -> Case {
-    let phone = ladder_phone(random);
+    let mut phone = ladder_phone(random);
     let count = random.between(0, most_events);
+    let mut stream = phone.encode();
+    if random.percent(20) {
+        let kind = random.one_of([CARD_IN, POWER_UP]);
+        let card = events::candidate(random, &phone, kind).encode();
+        step(&mut phone, &card);
+        stream.extend(card);
+    }
+    stream.extend(events::stream(random, &phone, count, Style::Aimed));
     Case {
         description: format!("keys in levels, {count} events"),
-        stream: stream_on(random, &phone, count, Style::Aimed),
+        stream,
     }
 }
 

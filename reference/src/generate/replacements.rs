@@ -1,7 +1,8 @@
 //! Replace events: a root, a recovery record and a new key, and what is nearly that.
 //!
-//! Follows 02, "Recovery keys". Each refusal of a replace is reached from one that would be done,
-//! by the one thing that the refusal is about, so that what else is asked does not hide it.
+//! Follows 02, "Recovery keys" and "Roots have a date as well". Each refusal of a replace is reached
+//! from one that would be done, by the one thing that the refusal is about, so that what else is
+//! asked does not hide it.
 
 use super::events::{
     all_certificates, all_executables, allowed_actor, owner_to_install, unknown_id,
@@ -28,12 +29,14 @@ fn certificates_that(phone: &Phone, test: impl Fn(&Certificate) -> bool) -> Vec<
     records
 }
 
+/// Whether a recovery record is one for this root.
+fn fits(root: &Certificate, recovery: &Certificate) -> bool {
+    root.is_root_of(recovery.domain) && root.place == 0 && root.owner == recovery.owner
+}
+
 /// A replace that would be done, where the phone has a root and a recovery record for one.
 pub fn plan(random: &mut Random, phone: &Phone, event: &mut Event) {
     let recoveries = certificates_that(phone, |c| c.kind == RECOVERY);
-    let fits = |root: &Certificate, recovery: &Certificate| {
-        root.is_root_of(recovery.domain) && root.place == 0 && root.owner == recovery.owner
-    };
     let helped = certificates_that(phone, |c| recoveries.iter().any(|r| fits(c, r)));
     // Without one that can be replaced any root will do, and any record in the recovery's place.
     let any_root = certificates_that(phone, |c| c.kind == ROOT && c.domain != THIRD_PARTY);
@@ -91,6 +94,11 @@ pub fn steer(random: &mut Random, phone: &Phone, event: &mut Event, aim: u8) {
     let is_away = |c: &Certificate| !phone.is_present(c.place) && c.domain != THIRD_PARTY;
     let is_root_here =
         |c: &Certificate| c.kind == ROOT && c.domain != THIRD_PARTY && phone.is_present(c.place);
+    // Its own date is no hindrance: the new one counts.
+    let is_old_root = |c: &Certificate| {
+        let is_helped = |r: &Certificate| r.kind == RECOVERY && fits(c, r);
+        !c.is_in_date(phone.clock) && phone.occupied_certificates().any(is_helped)
+    };
     match aim {
         8 => name_one_of(random, phone, event, is_away),
         10 => bring_strange_key(random, phone, event),
@@ -103,8 +111,22 @@ pub fn steer(random: &mut Random, phone: &Phone, event: &mut Event, aim: u8) {
         }),
         13 => name_one_of(random, phone, event, |c| is_root_here(c) && c.mark == 0),
         17 => miss_recovery(random, phone, event),
+        0 if random.percent(10) => name_one_of(random, phone, event, is_old_root),
+        18 => {
+            if random.percent(80) {
+                name_one_of(random, phone, event, is_old_root);
+            }
+            event.expiry = date_in_the_past(random, phone.clock);
+        }
         _ => {}
     }
+}
+
+/// A date below the clock, but for a clock of 0.
+fn date_in_the_past(random: &mut Random, clock: u32) -> u32 {
+    let any = random.u32() % clock.max(1);
+    let last = clock.saturating_sub(1);
+    random.one_of([last, last, last, 0, any])
 }
 
 /// Another record in place of the root, where one fits.

@@ -17,21 +17,21 @@ module _ (clock n : ℕ) (c : Certificate) {b : Bool} (q : b ≡ in-date n c) wh
   still : b ≡ true → false ≡ runs-out clock n c
   unfolding runs-out
   still h =
-      sym (never (eqb (c .kind) 1 && in-date clock c))
-      ∙ ap (λ b. eqb (c .kind) 1 && in-date clock c && not b) (sym h)
-      ∙ at-later (eqb (c .kind) 1 && in-date clock c)
+      sym (never (eqb (c .mark) 1 && in-date clock c))
+      ∙ ap (λ b. eqb (c .mark) 1 && in-date clock c && not b) (sym h)
+      ∙ at-later (eqb (c .mark) 1 && in-date clock c)
     where
       never : (a : Bool) → (a && not true) ≡ false
       never true = refl
       never false = refl
 
-  over : {d : Bool} → b ≡ false → d ≡ in-date clock c → (eqb (c .kind) 1 && d) ≡ runs-out clock n c
+  over : {d : Bool} → b ≡ false → d ≡ in-date clock c → (eqb (c .mark) 1 && d) ≡ runs-out clock n c
   unfolding runs-out
   over h e =
-      ap (λ d. eqb (c .kind) 1 && d) e
-      ∙ sym (and-true (eqb (c .kind) 1 && in-date clock c))
-      ∙ ap (λ b. eqb (c .kind) 1 && in-date clock c && not b) (sym h)
-      ∙ at-later (eqb (c .kind) 1 && in-date clock c)
+      ap (λ d. eqb (c .mark) 1 && d) e
+      ∙ sym (and-true (eqb (c .mark) 1 && in-date clock c))
+      ∙ ap (λ b. eqb (c .mark) 1 && in-date clock c && not b) (sym h)
+      ∙ at-later (eqb (c .mark) 1 && in-date clock c)
 
 returns : tie.Need-returns
 returns c = still _ _ _ (c .before .in-date .ensures) (c .if1 .taken)

@@ -9,11 +9,11 @@ use Rattle.device.proofs.DeviceDone.{Effected, put-in, put-in-only, set
 use Rattle.device.proofs.card_in.Statement.{statement}
 use Rattle.device.proofs.card_in.Tie as tie
 
-abbrev start : tie.After-has-valid-operator → tie.Start
+abbrev start : tie.After-has-marked-operator → tie.Start
 start c = c .before .before .before .before .before .before
 
 -- it is not refused
-decided : (c : tie.After-has-valid-operator) → code-of (decode (start c .args .s .now)) (with-kind 2 (start c .args .e)) ≡ 0
+decided : (c : tie.After-has-marked-operator) → code-of (decode (start c .args .s .now)) (with-kind 2 (start c .args .e)) ≡ 0
 decided c = sym (c .before .before .before .card-in .ensures) ∙ c .before .before .if1 .left
 
 effected : (c : tie.After-card-in2) → let a = start (c .before .before .before) .args in Effected 2 (a .s .now) (a .e) (c .card-in2 .last .0) true
@@ -24,7 +24,7 @@ returns-2 c =
     let wrote = c .before .before .before in
     let none = wrote .before .before in
     let z = start (none .before) in
-    put-in-only (z .args .e) (z .pre .0) (decided (none .before)) (none .before .has-valid-operator .ensures) (none .if2 .taken) (c .done .ensures)
+    put-in-only (z .args .e) (z .pre .0) (decided (none .before)) (none .before .has-marked-operator .ensures) (none .if2 .taken) (c .done .ensures)
     (wrote .card-only .ensures)
 
 settle-requires : tie.Need-settle-requires

@@ -1,57 +1,60 @@
 use Prim.Native.Nat.{ℕ}
 use mathlib.Core.Bool.{not}
-use mathlib.Core.Path.{_≡_, sym, ap, _∙_}
-use borrow.Author.Tests.{eq-eqb, ne-eqb}
-use lib.ListN.{drop}
+use mathlib.Core.List.{List, [], _∷_, _++_}
+use mathlib.Core.Path.{_≡_, ap, _∙_}
 use Rattle.records.specs.Phone.{decode, certificate-at}
-use Rattle.rules.specs.Words.{first}
-use Rattle.handling.proofs.CodeRows.{Gives, none, here, next, gives}
-use Rattle.certificates.specs.MarkingRows.{marking-rows}
+use Rattle.records.specs.declared.Certificate.{Certificate}
+use Rattle.rules.specs.Words.{Check, _⇒_, first}
+use Rattle.rules.specs.Chains.{in-date}
+use Rattle.handling.proofs.CodeRows.{none, here, next, gives, says}
+use Rattle.handling.proofs.PlanLaws.{stands, decides}
+use Rattle.certificates.specs.MarkingRows.{validity-rows, marking-rows}
 use borrow.Author.Needs.{needs}
 use Rattle.certificates.proofs.decisions.judge_marking.Statement.{statement}
 use Rattle.certificates.proofs.decisions.judge_marking.Tie as tie
 
-abbrev start : tie.After-certificate → tie.Start
+abbrev start : tie.After-judge-validity → tie.Start
 start c = c .before .before
 
--- what the rows say of the record that was read they say of the one in the slot
-told : (c : tie.After-certificate) {r : ℕ} → let a = start c .args in
-    r ≡ first (marking-rows (decode (a .s .now)) (c .certificate .result))
-    → r ≡ first (marking-rows (decode (a .s .now)) (certificate-at (decode (a .s .now)) (a .slot)))
-told c q = q ∙ ap (λ x. first (marking-rows (decode (start c .args .s .now)) x)) (c .certificate .ensures)
+-- the certificate in the slot
+abbrev root : tie.After-judge-validity → Certificate
+root c = certificate-at (decode (start c .args .s .now)) (start c .args .slot)
 
--- r is the code where the rows after the first n give it
-abbrev Past : ℕ → tie.After-certificate → ℕ → Type 0
-Past n c r =
-    let a = start c .args in
-    Gives r (drop n (marking-rows (decode (a .s .now)) (c .certificate .result)))
-    → r ≡ first (marking-rows (decode (a .s .now)) (certificate-at (decode (a .s .now)) (a .slot)))
+-- the rows besides the date, and that one
+abbrev validity : tie.After-judge-validity → List Check
+validity c = validity-rows (decode (start c .args .s .now)) (root c)
 
-past-1 : (c : tie.Else1) {r : ℕ} → Past 1 (c .before .before) r
-past-1 c g = told (c .before .before) (gives (next (sym (c .before .of-other-operator .ensures) ∙ c .if1 .left) g))
+abbrev last : tie.After-judge-validity → List Check
+last c = (not (in-date (decode (start c .args .s .now) .trust .seen .clock) (root c)) ⇒ 18) ∷ []
 
-past-2 : (c : tie.Else2) {r : ℕ} → Past 2 (c .before .before .before .before) r
-past-2 c g = past-1 (c .before .before) (next (ap not (eq-eqb _ 0 (c .if2 .left))) g)
+-- r is what all rows give where the last one gives it
+past : (c : tie.Else1) {r : ℕ} → r ≡ first (last (c .before)) → r ≡ first (validity (c .before) ++ last (c .before))
+past c q = q ∙ decides (validity (c .before)) (last (c .before)) tt (c .before .judge-validity .ensures) (c .if1 .left)
 
 returns : tie.Need-returns
-returns c = told (c .before .before) (gives (here (sym (c .before .of-other-operator .ensures) ∙ c .if1 .taken)))
+returns c = stands (validity (c .before)) (last (c .before)) (c .before .judge-validity .ensures) (c .if1 .taken)
+
+-- what is asked of the date at the clock and of the record that were read
+dated : (c : tie.After-in-date) → let k = c .before .before .before .before in
+    c .in-date .result ≡ in-date (decode (start k .args .s .now) .trust .seen .clock) (root k)
+dated c =
+    let k = c .before .before .before .before in
+    c .in-date .ensures
+    ∙ ap (λ x. in-date (c .before .before .clock .result) x) (c .before .certificate .ensures)
+    ∙ ap (λ t. in-date t (root k)) (c .before .before .clock .ensures)
 
 returns-2 : tie.Need-returns-2
-returns-2 c = past-1 (c .before .before) (here (ap not (ne-eqb _ 0 (c .if2 .taken))))
+returns-2 c = past (c .before .before .before .before) (gives (here (says (dated (c .before)) (c .if2 .taken))))
 
 returns-3 : tie.Need-returns-3
-returns-3 c = past-2 (c .before .before) (here (sym (c .before .has-rival .ensures) ∙ c .if3 .taken))
-
-returns-4 : tie.Need-returns-4
-returns-4 c = past-2 (c .before .before) (next (sym (c .before .has-rival .ensures) ∙ c .if3 .left) none)
+returns-3 c = past (c .before .before .before .before) (gives (next (says (dated (c .before)) (c .if2 .left)) none))
 
 pub judge-marking-spec : {M : Type 1} → statement M
 judge-marking-spec =
     tie.close
     (tie.spec
-    (λ c κs. search needs) (λ c κs. search needs)
-    returns
-    returns-2
     (λ c κs. search needs)
-    returns-3
-    returns-4)
+    returns
+    (λ c κs. search needs) (λ c κs. search needs) (λ c κs. search needs)
+    returns-2
+    returns-3)

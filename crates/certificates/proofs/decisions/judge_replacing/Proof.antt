@@ -2,13 +2,15 @@ use Prim.Native.Nat.{ℕ}
 use mathlib.Core.Bool.{Bool, not}
 use mathlib.Core.List.{List, [], _∷_, _++_}
 use mathlib.Core.Path.{_≡_, sym, ap, _∙_}
+use lib.Dec.{ltb}
+use lib.ListN.{drop}
 use Rattle.records.specs.Phone.{decode, certificate-at}
 use Rattle.records.specs.declared.Certificate.{Certificate}
 use Rattle.rules.specs.Words.{any, Check, _⇒_, first}
 use Rattle.rules.specs.Codes.{in-another, may-replace}
-use Rattle.handling.proofs.CodeRows.{none, here, next, rest, gives, says}
+use Rattle.handling.proofs.CodeRows.{Gives, none, here, next, rest, gives, says, says-below, says-not-below}
 use Rattle.handling.proofs.PlanLaws.{stands, decides}
-use Rattle.certificates.specs.MarkingRows.{marking-rows, replacing-rows}
+use Rattle.certificates.specs.MarkingRows.{validity-rows, replacing-rows}
 use borrow.Author.Needs.{needs}
 use Rattle.certificates.proofs.decisions.judge_replacing.Statement.{statement}
 use Rattle.certificates.proofs.decisions.judge_replacing.Tie as tie
@@ -20,12 +22,15 @@ start c = c .before .before
 abbrev root : tie.After-certificate → Certificate
 root c = certificate-at (decode (start c .args .s .now)) (start c .args .slot)
 
--- the rows of marking, and the one that is last
-abbrev marking : tie.After-certificate → List Check
-marking c = marking-rows (decode (start c .args .s .now)) (root c)
+-- the rows of being valid, and those behind them
+abbrev validity : tie.After-certificate → List Check
+validity c = validity-rows (decode (start c .args .s .now)) (root c)
 
 abbrev last : tie.After-certificate → List Check
-last c = (not (may-replace (start c .args .e) (root c) (start c .args .r)) ⇒ 17) ∷ []
+last c =
+    (not (may-replace (start c .args .e) (root c) (start c .args .r)) ⇒ 17)
+    ∷ (ltb (start c .args .e .expiry) (decode (start c .args .s .now) .trust .seen .clock) ⇒ 18)
+    ∷ []
 
 abbrev rows : tie.After-certificate → List Check
 rows c = replacing-rows (decode (start c .args .s .now)) (start c .args .e) (root c) (start c .args .r)
@@ -42,14 +47,14 @@ elsewhere c h =
     sym (c .key-elsewhere .ensures ∙ at) ∙ h
 
 -- r is what the rows give where those after the first give it
-past-1 : (c : tie.Else1) {r : ℕ} → r ≡ first (marking (read c) ++ last (read c)) → r ≡ first (rows (read c))
+past-1 : (c : tie.Else1) {r : ℕ} → r ≡ first (validity (read c) ++ last (read c)) → r ≡ first (rows (read c))
 past-1 c q = gives (next (elsewhere (c .before) (c .if1 .left)) (rest q))
 
 -- and where marking is not refused
 past-2 : (c : tie.Else2) {r : ℕ} → r ≡ first (last (read (c .before .before))) → r ≡ first (rows (read (c .before .before)))
 past-2 c q =
     let k = c .before .before in
-    past-1 k (q ∙ decides (marking (read k)) (last (read k)) tt (c .before .judge-marking .ensures) (c .if2 .left))
+    past-1 k (q ∙ decides (validity (read k)) (last (read k)) tt (c .before .judge-validity .ensures) (c .if2 .left))
 
 returns : tie.Need-returns
 returns c = gives (here (elsewhere (c .before) (c .if1 .taken)))
@@ -57,7 +62,7 @@ returns c = gives (here (elsewhere (c .before) (c .if1 .taken)))
 returns-2 : tie.Need-returns-2
 returns-2 c =
     let k = c .before .before in
-    past-1 k (stands (marking (read k)) (last (read k)) (c .before .judge-marking .ensures) (c .if2 .taken))
+    past-1 k (stands (validity (read k)) (last (read k)) (c .before .judge-validity .ensures) (c .if2 .taken))
 
 -- whether the root may be replaced
 may : (c : tie.After-may-replace) → let k = read (c .before .before .before) in
@@ -69,8 +74,15 @@ may c =
 returns-3 : tie.Need-returns-3
 returns-3 c = past-2 (c .before .before) (gives (here (says (may (c .before)) (c .if3 .taken))))
 
+-- and where the root may be replaced
+past-3 : (c : tie.Else3) {r : ℕ} → let k = read (c .before .before .before .before) in Gives r (drop 1 (last k)) → r ≡ first (rows k)
+past-3 c g = past-2 (c .before .before) (gives (next (says (may (c .before)) (c .if3 .left)) g))
+
 returns-4 : tie.Need-returns-4
-returns-4 c = past-2 (c .before .before) (gives (next (says (may (c .before)) (c .if3 .left)) none))
+returns-4 c = past-3 (c .before .before .before) (here (says-below (c .before .before .clock .ensures) (c .if4 .taken)))
+
+returns-5 : tie.Need-returns-5
+returns-5 c = past-3 (c .before .before .before) (next (says-not-below (c .before .before .clock .ensures) (c .if4 .left)) none)
 
 pub judge-replacing-spec : {M : Type 1} → statement M
 judge-replacing-spec =
@@ -82,4 +94,6 @@ judge-replacing-spec =
     returns-2
     (λ c κs. search needs)
     returns-3
-    returns-4)
+    (λ c κs. search needs)
+    returns-4
+    returns-5)
