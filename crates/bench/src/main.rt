@@ -4,31 +4,15 @@ use libc::STDIN_FILENO;
 use libc::STDOUT_FILENO;
 use records::Event;
 use records::image;
-ghost use mathlib.Core.Bool.{cond};
 ghost use mathlib.Core.Path.{_≡_};
-ghost use lib.Dec.{leb};
 ghost use lib.ListN.{length};
-ghost use Prim.Native.Nat.{_+_, _≤_};
+ghost use Prim.Native.Nat.{_≤_};
 ghost use Rattle.records.specs.Sizes.{event-size};
 ghost use Rattle.rules.specs.AcceptedImage.{Accepted-image};
 ghost use Rattle.stream.specs.PrintedLines.{longest-line};
 
 // Events are numbered as far as 64 bits count: a million of them a second take half a million years to get there.
 const MOST_EVENTS: u64 = 18446744073709551615;
-
-// ---- text, collected in a buffer and written in large pieces
-
-// Where the next line goes: behind what is collected or, where there is no room for it, at the start once that is written.
-fn room(out: &[u8], used: usize) -> usize
-    requires { ⌜ (used ≤ length (now out)) × (longest-line ≤ length (now out)) ⌝ }
-    ensures { λ r. ⌜ r ≡ cond (leb (used + longest-line) (length (now (out .entry)))) used 0 ⌝ }
-{
-    if stream::LONGEST_LINE <= out.len() - used {
-        return used;
-    }
-    io::write_all(STDOUT_FILENO, &out[..used]);
-    0
-}
 
 // ---- a run
 
@@ -43,8 +27,7 @@ fn all_events(s: &mut [u8], v: &mut [u8], out: &mut [u8])
     while n < MOST_EVENTS && 0 < got {
         n += 1;
         let a = events::step_accepted(s, &v[..got]);
-        let at = room(out, used);
-        used = stream::put_line(out, at, n, v[0], a);
+        used = stream::add_line(out, used, n, v[0], a);
         got = io::read_full(STDIN_FILENO, v);
     }
     io::write_all(STDOUT_FILENO, &out[..used]);

@@ -1,7 +1,9 @@
 -- 01, "One run of bench, whole": what it prints. Definitions, and lines computed by them. Assumes nothing.
 use Prim.Native.Nat.{ℕ, _+_, _*_}
+use mathlib.Core.Bool.{cond}
 use mathlib.Core.List.{List, [], _∷_, _++_}
 use mathlib.Core.Path.{_≡_, refl}
+use lib.Dec.{leb}
 use Rattle.octets.specs.Octets.{bytes}
 use Rattle.rules.specs.declared.Answer.{Answer}
 use Rattle.stream.specs.Decimal.{most-digits, places-within, decimal, column}
@@ -13,6 +15,10 @@ line n kind a = decimal n ++ column kind ++ column (a .code) ++ column (a .domai
 -- no line is longer: five numbers, and a byte behind each
 abbrev pub longest-line : ℕ
 longest-line = 5 * (most-digits + 1)
+
+-- where the next goes in a buffer of this size: behind what is collected, or at the start where there is no room for the longest
+abbrev pub line-place : ℕ → ℕ → ℕ
+line-place used size = cond (leb (used + longest-line) size) used 0
 
 -- "event kind code domain links", the first line
 unfoldable pub heading : List ℕ

@@ -1,4 +1,5 @@
 // What the programs share: an image as it comes from a descriptor, and what they write, put into a buffer. Nothing is judged here.
+use libc::STDOUT_FILENO;
 use records::Header;
 use records::image;
 use rules::Answer;
@@ -9,7 +10,7 @@ ghost use Rattle.octets.specs.Octets.{put};
 ghost use Rattle.records.specs.Sizes.{largest-image};
 ghost use Rattle.stream.specs.Decimal.{most-digits, decimal, column};
 ghost use Rattle.stream.specs.Refusal.{image-refused, longest-refusal};
-ghost use Rattle.stream.specs.PrintedLines.{line, longest-line, heading};
+ghost use Rattle.stream.specs.PrintedLines.{line, longest-line, line-place, heading};
 
 // Reads a header and then the bytes up to the total that it tells, and answers how many came: fewer where the input
 // ends. Behind a header with a total that no image has, nothing more is read.
@@ -92,6 +93,28 @@ pub fn put_line(out: &mut [u8], at: usize, n: u64, kind: u8, a: Answer) -> usize
     let linked = put_column(out, placed, a.links as u64);
     put_text(out, linked, b"\n");
     linked + 1
+}
+
+// Where the next line goes: behind what is collected or, where there is no room for it, at the start once that is written.
+fn room(out: &[u8], used: usize) -> usize
+    requires { ⌜ (used ≤ length (now out)) × (longest-line ≤ length (now out)) ⌝ }
+    ensures { λ r. ⌜ r ≡ line-place used (length (now (out .entry))) ⌝ }
+{
+    if LONGEST_LINE <= out.len() - used {
+        return used;
+    }
+    io::write_all(STDOUT_FILENO, &out[..used]);
+    0
+}
+
+// The line of an event's answer put behind what is collected, in a buffer that is written to standard output when it is full: how much is collected then.
+pub fn add_line(out: &mut [u8], used: usize, n: u64, kind: u8, a: Answer) -> usize
+    requires { ⌜ (used ≤ length (now out)) × (longest-line ≤ length (now out)) ⌝ }
+    ensures { λ r. ⌜ (now (out .exit) ≡ put (now (out .entry)) (line-place used (length (now (out .entry)))) (line n kind a))
+        × (r ≡ line-place used (length (now (out .entry))) + length (line n kind a)) ⌝ }
+{
+    let at = room(out, used);
+    put_line(out, at, n, kind, a)
 }
 
 // The line of an image that is refused, put at the start of a buffer: how long it is.

@@ -1,13 +1,13 @@
 use Prim.Native.Nat.{_+_}
 use lib.ListN.{length}
 use Rattle.stream.specs.PrintedLines.{longest-line}
 use native.Mathlib.Omega.{arith}
 use mathlib.Core.Path.{sym}
 use borrow.Author.Tests.{le-leb, lt-leb}
 use lib.Seq.{length-take-le}
 use borrow.Author.Needs.{needs}
-use Rattle.bench.proofs.room.Statement.{statement}
-use Rattle.bench.proofs.room.Tie as tie
+use Rattle.stream.proofs.room.Statement.{statement}
+use Rattle.stream.proofs.room.Tie as tie
 
 returns : tie.Need-returns
 returns c = let a = c .before .before .args in rw (le-leb (a .used + longest-line) (length (a .out .now)) (omega arith))
