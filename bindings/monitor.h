@@ -25,13 +25,17 @@ extern "C" {
 
 /*
  * The largest image, an event, an answer of monitor_run, a line of monitor_why
- * and room for every line, in bytes.
+ * and room for every line, the largest timeline, a record of it and room for
+ * every event of monitor_timeline, in bytes.
  */
 #define MONITOR_IMAGE_MAX 2536
 #define MONITOR_EVENT_SIZE 24
 #define MONITOR_ANSWER_SIZE 6
 #define MONITOR_LINE_SIZE 3
 #define MONITOR_WHY_SIZE 192
+#define MONITOR_TIMELINE_MAX 32008
+#define MONITOR_TIMED_SIZE 32
+#define MONITOR_EVENTS_SIZE 48000
 
 /*
  * The parts of what monitor_open and monitor_step answer, a number with links
@@ -60,6 +64,15 @@ extern "C" {
 /* The parts of a line of monitor_why: bytes points to the first of its three. */
 #define MONITOR_LINE_SAID(bytes) ((bytes)[0])
 #define MONITOR_LINE_ID(bytes) ((uint16_t)((bytes)[1] * 256 + (bytes)[2]))
+
+/*
+ * The parts of what monitor_timeline answers: the number of events in its bits
+ * 0 to 15, and code, rule and offset by the macros above.
+ */
+#define MONITOR_EVENTS(answer) ((uint16_t)(answer))
+
+/* The code of a timeline that breaks its form. */
+#define MONITOR_CODE_TIMELINE 19
 
 /* What a line says of the certificate or the executable with its id. */
 enum monitor_said {
@@ -132,6 +145,27 @@ size_t monitor_run(uint8_t *image, size_t image_length,
  */
 uint64_t monitor_why(const uint8_t *image, size_t image_length, uint16_t id,
                      uint8_t *lines, size_t lines_length);
+
+/*
+ * The events of a timeline for an image: the answer as a number (see the
+ * macros), and events of 24 bytes, those of the records in order, with a clock
+ * event put in wherever the next second is above the clock. The buffer gets as
+ * many whole events as it has room for: MONITOR_EVENTS_SIZE bytes have room for
+ * every one. Running the timeline is monitor_run on them, with the same image.
+ *
+ * A timeline is a header, two bytes each of the version, 1, and of the number
+ * of records, at most 1,000, and four of their offset, 8, and then exactly so
+ * many records of 32 bytes: four bytes of the second, four that are zero, and
+ * an event that is no clock event; all numbers high byte first. Seconds never
+ * fall, and the first is not below the image's clock.
+ *
+ * Code 1 where the image is not accepted: the number that monitor_open answers.
+ * Code 19 where the timeline breaks its form, wherever it does. Every code but
+ * 0 has no events and leaves the buffer byte for byte.
+ */
+uint64_t monitor_timeline(const uint8_t *image, size_t image_length,
+                          const uint8_t *timeline, size_t timeline_length,
+                          uint8_t *events, size_t events_length);
 
 #ifdef __cplusplus
 }

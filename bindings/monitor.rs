@@ -18,6 +18,12 @@ const ANSWER_SIZE: usize = 6;
 const LINE_SIZE: usize = 3;
 /// Room for every line of an explanation, in bytes.
 const WHY_SIZE: usize = 192;
+/// The largest timeline, in bytes.
+pub const TIMELINE_MAX: usize = 32008;
+/// A record of a timeline, in bytes.
+pub const TIMED_SIZE: usize = 32;
+/// Room for every event of a timeline, in bytes.
+const EVENTS_SIZE: usize = 48000;
 
 /// Where an image is wrong: the first broken rule, 1 to 8, and an offset.
 ///
@@ -83,6 +89,15 @@ pub enum Unexplained {
     Unknown,
 }
 
+/// Why a timeline has no events to run.
+#[derive(Clone, Copy, Debug, PartialEq, Eq)]
+pub enum Unplayed {
+    /// Code 1: the image is not accepted.
+    Image(Fault),
+    /// Code 19: the timeline breaks its form.
+    Timeline,
+}
+
 /// The parts of a number: links in its bits 0 to 7, domain in 8 to 15, code in
 /// 16 to 23, rule in 24 to 31 and offset in 32 to 47.
 fn from_number(told: u64) -> Answer {
@@ -118,6 +133,14 @@ extern "C" {
         answers_length: usize,
     ) -> usize;
     fn monitor_why(image: *const u8, image_length: usize, id: u16, lines: *mut u8, lines_length: usize) -> u64;
+    fn monitor_timeline(
+        image: *const u8,
+        image_length: usize,
+        timeline: *const u8,
+        timeline_length: usize,
+        events: *mut u8,
+        events_length: usize,
+    ) -> u64;
 }
 
 /// Whether the bytes are an image that keeps every rule, and where not. Any bytes:
@@ -181,5 +204,38 @@ pub fn why(image: &[u8], id: u16) -> Result<Vec<Line>, Unexplained> {
             .collect()),
         1 => Err(Unexplained::Image(Fault { rule, offset })),
         _ => Err(Unexplained::Unknown),
+    }
+}
+
+/// The events of a timeline for an image, one after the other: those of its
+/// records in order, with a clock event put in wherever the next second is above
+/// the clock, at most 2,000. Running the timeline is `run` on them, with the same
+/// image.
+///
+/// A timeline is a header, two bytes each of the version, 1, and of the number of
+/// records, at most 1,000, and four of their offset, 8, and then exactly so many
+/// records of 32 bytes: four bytes of the second, four that are zero, and an event
+/// that is no clock event; all numbers high byte first. Seconds never fall, and
+/// the first is not below the image's clock.
+pub fn timeline(image: &[u8], timeline: &[u8]) -> Result<Vec<u8>, Unplayed> {
+    let mut events = vec![0u8; EVENTS_SIZE];
+    let told = unsafe {
+        monitor_timeline(
+            image.as_ptr(),
+            image.len(),
+            timeline.as_ptr(),
+            timeline.len(),
+            events.as_mut_ptr(),
+            events.len(),
+        )
+    };
+    let Answer { code, rule, offset, .. } = from_number(told);
+    match code {
+        0 => {
+            events.truncate(usize::from(told as u16) * EVENT_SIZE);
+            Ok(events)
+        }
+        1 => Err(Unplayed::Image(Fault { rule, offset })),
+        _ => Err(Unplayed::Timeline),
     }
 }

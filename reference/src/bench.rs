@@ -53,15 +53,43 @@ pub fn run_and_watch(stream: &[u8], mut watch: impl FnMut(&Phone, &[u8], Answer,
             };
         }
     };
-    for (at, record) in event_records(events).enumerate() {
-        let before = phone.clone();
-        let answer = step(&mut phone, record);
-        watch(&before, record, answer, &phone);
-        text.push_str(&line(at + 1, record, answer));
+    let mut running = Running::of(&mut phone, &mut text);
+    for record in event_records(events) {
+        running.event(record, &mut watch);
     }
     Run {
         text,
         image: Ok(phone.encode()),
+    }
+}
+
+/// A phone on which events run one after the other, and what is printed of them.
+pub(crate) struct Running<'a> {
+    pub(crate) phone: &'a mut Phone,
+    text: &'a mut String,
+    events: usize,
+}
+
+impl<'a> Running<'a> {
+    pub(crate) fn of(phone: &'a mut Phone, text: &'a mut String) -> Running<'a> {
+        Running {
+            phone,
+            text,
+            events: 0,
+        }
+    }
+
+    /// One event, its line, and whoever watches.
+    pub(crate) fn event(
+        &mut self,
+        record: &[u8],
+        watch: &mut impl FnMut(&Phone, &[u8], Answer, &Phone),
+    ) {
+        let before = self.phone.clone();
+        let answer = step(self.phone, record);
+        watch(&before, record, answer, self.phone);
+        self.events += 1;
+        self.text.push_str(&line(self.events, record, answer));
     }
 }
 

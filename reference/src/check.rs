@@ -11,6 +11,7 @@ use crate::bench::{run_and_watch, split_stream, Run};
 use crate::events::{Answer, LAST_CODE, LAST_KIND, REQUEST, VERIFY};
 use crate::image_rules::{first_broken, Broken};
 use crate::phone::Phone;
+use crate::played::Played;
 use crate::refusal::Refusal;
 use crate::shown::Shown;
 use crate::text::{to_bytes, to_text};
@@ -33,6 +34,8 @@ pub struct Counts {
     granted: [[u64; 5]; 4],
     /// What the answers to questions show.
     pub shown: Shown,
+    /// What timelines show.
+    pub played: Played,
 }
 
 impl Counts {
@@ -42,7 +45,7 @@ impl Counts {
         *self.places.entry(place).or_default() += 1;
     }
 
-    fn add_event(&mut self, record: &[u8], answer: Answer) {
+    pub(crate) fn add_event(&mut self, record: &[u8], answer: Answer) {
         self.events += 1;
         let kind = match record.first() {
             Some(&kind @ 1..=LAST_KIND) => usize::from(kind),
@@ -83,6 +86,7 @@ impl Counts {
         add_table(&mut self.verified, &other.verified);
         add_table(&mut self.granted, &other.granted);
         self.shown.merge(&other.shown);
+        self.played.merge(&other.played);
     }
 
     /// The counts as text.
@@ -225,14 +229,14 @@ fn check_text(stream: &[u8]) -> Result<(), String> {
     }
 }
 
-fn check_encoding(image: &[u8]) -> Result<(), String> {
+pub(crate) fn check_encoding(image: &[u8]) -> Result<(), String> {
     match Phone::decode(image) {
         Some(phone) if phone.encode() == image => Ok(()),
         _ => Err("decoding and encoding the image does not give it back".to_string()),
     }
 }
 
-fn check_step(before: &Phone, answer: Answer, after: &Phone) -> Option<String> {
+pub(crate) fn check_step(before: &Phone, answer: Answer, after: &Phone) -> Option<String> {
     let image = after.encode();
     if answer.code != 0 && image != before.encode() {
         return Some(format!(

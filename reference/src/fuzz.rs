@@ -2,7 +2,8 @@
 //!
 //! Follows 01, "One run of `bench`, whole": the stream is standard input, the lines are
 //! standard output, and the program has to end well. For 02, "Tell the trainee why", it runs the
-//! program for every question about a stream, the question in the last words of the command.
+//! program for every question about a stream, the question in the last words of the command; for
+//! "Lesson timelines" on an image and a timeline.
 
 use std::io::Write;
 use std::path::{Path, PathBuf};
@@ -14,7 +15,8 @@ use std::time::{Duration, Instant};
 use crate::asked::Scene;
 use crate::check::{checked_run, Counts};
 use crate::generate::questions::questions;
-use crate::generate::{case_of, Mix};
+use crate::generate::{case_of, timelines, Case, Mix};
+use crate::played::checked_play;
 use crate::why::Answer;
 
 /// When to stop where no difference is found.
@@ -31,6 +33,8 @@ pub enum Task {
     Bench(Mix),
     /// The answers to questions about a stream.
     Why,
+    /// The answers to the events of a timeline.
+    Play,
 }
 
 pub struct Plan {
@@ -157,18 +161,27 @@ fn work(shared: &Shared) {
 
 fn run_case(plan: &Plan, number: u64, counts: &mut Counts) -> Result<Option<Difference>, String> {
     match plan.task {
-        Task::Bench(mix) => run_bench_case(plan, mix, number, counts),
+        Task::Bench(mix) => {
+            let case = case_of(mix, plan.seed, number);
+            let want = checked_run(&case.stream, counts).map(|run| run.text);
+            run_printing_case(plan, number, &case, want)
+        }
+        Task::Play => {
+            let case = timelines::case(plan.seed, number);
+            let want = checked_play(&case.stream, counts).map(|run| run.text);
+            run_printing_case(plan, number, &case, want)
+        }
         Task::Why => run_why_case(plan, number, counts),
     }
 }
 
-fn run_bench_case(
+/// A case for which the program prints a line for each event; the reference prints what is wanted.
+fn run_printing_case(
     plan: &Plan,
-    mix: Mix,
     number: u64,
-    counts: &mut Counts,
+    case: &Case,
+    want: Result<String, String>,
 ) -> Result<Option<Difference>, String> {
-    let case = case_of(mix, plan.seed, number);
     let difference = |message: String, want: String, got: Vec<u8>| Difference {
         case: number,
         description: case.description.clone(),
@@ -178,14 +191,19 @@ fn run_bench_case(
         want,
         got,
     };
-    let want = match checked_run(&case.stream, counts) {
-        Ok(run) => run.text,
+    let want = match want {
+        Ok(want) => want,
         Err(complaint) => {
             let message = format!("the reference itself is wrong: {complaint}");
             return Ok(Some(difference(message, String::new(), Vec::new())));
         }
     };
-    let output = run_program(&plan.command, &[], &case.stream, Stdio::inherit())?;
+    let standard_error = match plan.task {
+        // A program may say there why it refuses a timeline.
+        Task::Play => Stdio::null(),
+        _ => Stdio::inherit(),
+    };
+    let output = run_program(&plan.command, &[], &case.stream, standard_error)?;
     if output.stdout != want.as_bytes() {
         let message = first_difference(&want, &String::from_utf8_lossy(&output.stdout));
         return Ok(Some(difference(message, want, output.stdout)));
@@ -381,7 +399,7 @@ fn quoted(line: &str) -> String {
     format!("`{}`{more}", start.escape_debug())
 }
 
-/// Line 0 is the heading; line n is event n, or line 1 is that of a refused image.
+/// Line 0 is the heading; line n is event n, or line 1 is that of a refused image or timeline.
 fn place_of(line: usize) -> String {
     match line {
         0 => "first line".to_string(),
@@ -417,6 +435,7 @@ pub fn kept_name(plan: &Plan, case: u64) -> PathBuf {
         Task::Bench(Mix::All) => "fuzz",
         Task::Bench(Mix::Damaged) => "damaged",
         Task::Why => "why",
+        Task::Play => "timeline",
     };
     plan.keep.join(format!("{name}-{}-{case}", plan.seed))
 }

@@ -10,6 +10,7 @@ pub mod ladders;
 pub mod mixed_damage;
 pub mod questions;
 mod replacements;
+pub mod timelines;
 
 use crate::bench::{self, event_records, split_stream};
 use crate::events::{step, Event, LAST_KIND, VERIFY};

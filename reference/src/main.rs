@@ -1,7 +1,7 @@
 //! The command line: one sub-command for each use of the reference.
 //!
-//! Exit status 0 is good, 1 a difference or a refused image, 2 bad usage or something that
-//! cannot be read or written.
+//! Exit status 0 is good, 1 a difference or a refused image or timeline, 2 bad usage or something
+//! that cannot be read or written.
 
 use std::collections::BTreeSet;
 use std::io::{Read, Write};
@@ -12,13 +12,15 @@ use std::time::Duration;
 use reference::bench::{self, Run};
 use reference::check::{checked_run, Counts};
 use reference::fuzz::{fuzz, kept_name, write_file, Plan, Task, Until};
-use reference::generate::{case_of, longer, Case, Mix};
+use reference::generate::{case_of, longer, timelines, Case, Mix};
 use reference::image_rules::{first_broken, Broken};
 use reference::phone::Header;
+use reference::played::checked_play;
 use reference::refusal::open;
 use reference::stored_questions::{self, Choice};
-use reference::text::{to_bytes, to_text};
-use reference::vectors::{rewrite_answers, run_folder};
+use reference::text::{timeline_to_text, to_bytes, to_text};
+use reference::timeline::{self, Refused};
+use reference::vectors::{rewrite_answers, run_folder, run_timelines};
 use reference::why::{Answer, Question};
 
 const HELP: &str = "\
@@ -27,18 +29,28 @@ An unproved reference of the phone monitor, for comparing.
 usage: reference SUB-COMMAND
 
   bench   stream on standard input -> what `bench` prints
-  image   stream on standard input -> the bytes of the image after the last event;
-          nothing and exit status 1 where the image is refused
+  play    image and timeline on standard input -> what `play` prints; where the timeline breaks its
+          form, standard error says how
+  image [--timeline]
+          stream on standard input -> the bytes of the image after the last event; nothing and exit
+          status 1 where the image is refused; with --timeline, the same of an image and a timeline
+  stream  image and timeline on standard input -> the stream that they stand for, the clock events
+          put in; nothing and exit status 1 where one of them is refused
   why ID [EVENTS]
           stream on standard input -> why the executable ID is trusted or not, after so many of
           the events (default: 0), as the program `why` prints it
-  text    stream on standard input -> its text form
-  bytes   text form on standard input -> the stream
+  text [--timeline]
+          stream on standard input -> its text form; with --timeline, that of an image and a timeline
+  bytes   text form on standard input -> the stream, or the image and the timeline where it has
+          `at` lines
   vectors DIR
           runs the cases of DIR and prints what the program `vectors` prints
   vectors --why DIR
           runs the questions of DIR (NAME.in, NAME.id, NAME.out) and prints what differs and what
           the answers show
+  vectors --play DIR
+          runs the timelines of DIR (NAME.in, NAME.out, NAME.fin) and prints what differs, what was
+          covered and what the timelines show
   answers DIR
           runs the cases of DIR and writes each NAME.out anew that says something else; prints
           where the stored ones differed; NAME.in and NAME.fin stay as they are
@@ -50,28 +62,40 @@ usage: reference SUB-COMMAND
   cases   --why --seed S --runs N --into DIR [--most-bytes B] [--fresh]
           writes N questions, of those about a stream of at most B bytes: DIR/cases, NAME.in,
           NAME.id (`ID` or `ID EVENTS`) and NAME.out; prints what they show
-  fuzz    --seed S (--runs N | --seconds T) [--workers W] [--keep DIR] [--damaged | --why] -- COMMAND ARGS...
+  cases   --timelines --seed S --runs N --into DIR [--most-bytes B]
+          writes N images with timelines, of those of at most B bytes together: DIR/cases, NAME.in,
+          NAME.out and, where both are accepted, NAME.fin; prints what they show
+  fuzz    --seed S (--runs N | --seconds T) [--workers W] [--keep DIR] [--damaged | --why | --timelines] -- COMMAND ARGS...
           runs COMMAND on case after case and stops at the first difference
 
   --damaged
           images damaged in one way or several, for the rule and the offset behind `image 1`
   --why   questions as `why` answers them: COMMAND ARGS... ID [EVENTS] is run for each executable
           of a stream, for an unknown id and for 0, and once with bad usage
+  --timelines
+          images with timelines behind them, in form and broken in each way, as `play` reads them
   --fresh of the first 20,000 cases only those refused in a way that no earlier one is refused
           in, at no first record of a table, and one accepted; with --why, of the questions about
           the first 2,000 streams so many that each thing worth a count is shown four times;
           N is then the most to write
 
-exit status: 0 good, 1 a difference or a refused image, 2 bad usage or unreadable
+exit status: 0 good, 1 a difference or a refused image or timeline, 2 bad usage or unreadable
 ";
 
 const DAMAGED: &str = "--damaged";
 const WHY: &str = "--why";
+const TIMELINES: &str = "--timelines";
 const FRESH: &str = "--fresh";
+
+/// The flags that choose a task, of which one at most is given.
+const TASKS: [&str; 3] = [DAMAGED, WHY, TIMELINES];
+
+const PLAY: &str = "--play";
+const TIMELINE: &str = "--timeline";
 
 /// How a sub-command ends where it does not end well.
 enum Failure {
-    /// A difference was found or an image refused; exit status 1.
+    /// A difference was found, or an image or a timeline refused; exit status 1.
     Difference(String),
     /// Bad usage, or something that cannot be read or written; exit status 2.
     Trouble(String),
@@ -104,9 +128,15 @@ fn run(arguments: &[String]) -> Result<(), Failure> {
     }
     match name.as_str() {
         "bench" => plain(rest, run_bench),
-        "image" => plain(rest, run_image),
+        "play" => plain(rest, run_play),
+        "image" => stream_or_timeline(rest, run_image, run_image_of_timeline),
+        "stream" => plain(rest, run_stream),
         "why" => run_why(rest),
-        "text" => plain(rest, |stream| print(to_text(stream).as_bytes())),
+        "text" => stream_or_timeline(
+            rest,
+            |stream| print(to_text(stream).as_bytes()),
+            |stream| print(timeline_to_text(stream).as_bytes()),
+        ),
         "bytes" => plain(rest, run_bytes),
         "vectors" => run_vectors(rest),
         "answers" => run_answers(rest),
@@ -133,6 +163,18 @@ fn plain(rest: &[String], act: impl Fn(&[u8]) -> Result<(), Failure>) -> Result<
     act(&read()?)
 }
 
+/// A sub-command that reads a stream, or with its flag an image and a timeline.
+fn stream_or_timeline(
+    rest: &[String],
+    of_stream: impl Fn(&[u8]) -> Result<(), Failure>,
+    of_timeline: impl Fn(&[u8]) -> Result<(), Failure>,
+) -> Result<(), Failure> {
+    match rest {
+        [flag] if flag == TIMELINE => plain(&[], of_timeline),
+        _ => plain(rest, of_stream),
+    }
+}
+
 fn read() -> Result<Vec<u8>, Failure> {
     let mut input = Vec::new();
     std::io::stdin()
@@ -157,6 +199,26 @@ fn run_image(stream: &[u8]) -> Result<(), Failure> {
         Ok(image) => print(&image),
         Err(refusal) => Err(Difference(format!("the image breaks {refusal}"))),
     }
+}
+
+fn run_play(stream: &[u8]) -> Result<(), Failure> {
+    let run = timeline::run(stream);
+    print(run.text.as_bytes())?;
+    // The code says nothing of the place, and whoever wrote the timeline looks for it.
+    if let Err(refused @ Refused::Timeline(_)) = run.image {
+        eprintln!("reference: {refused}");
+    }
+    Ok(())
+}
+
+fn run_image_of_timeline(stream: &[u8]) -> Result<(), Failure> {
+    let image = timeline::run(stream).image;
+    print(&image.map_err(|refused| Difference(refused.to_string()))?)
+}
+
+fn run_stream(stream: &[u8]) -> Result<(), Failure> {
+    let stream = timeline::as_stream(stream);
+    print(&stream.map_err(|refused| Difference(refused.to_string()))?)
 }
 
 fn run_why(words: &[String]) -> Result<(), Failure> {
@@ -215,11 +277,16 @@ impl<'a> Options<'a> {
     }
 
     fn task(&self) -> Result<Task, Failure> {
-        match (self.has(DAMAGED), self.has(WHY)) {
-            (false, false) => Ok(Task::Bench(Mix::All)),
-            (true, false) => Ok(Task::Bench(Mix::Damaged)),
-            (false, true) => Ok(Task::Why),
-            (true, true) => Err(bad_usage("only one of --damaged and --why can be given")),
+        let given: Vec<&str> = TASKS.into_iter().filter(|flag| self.has(flag)).collect();
+        match given[..] {
+            [] => Ok(Task::Bench(Mix::All)),
+            [DAMAGED] => Ok(Task::Bench(Mix::Damaged)),
+            [WHY] => Ok(Task::Why),
+            [TIMELINES] => Ok(Task::Play),
+            _ => {
+                let names = TASKS.join(", ");
+                Err(bad_usage(&format!("only one of {names} can be given")))
+            }
         }
     }
 
@@ -261,6 +328,7 @@ fn run_answers(words: &[String]) -> Result<(), Failure> {
 fn run_vectors(words: &[String]) -> Result<(), Failure> {
     let outcome = match words {
         [flag, rest @ ..] if flag == WHY => stored_questions::run_folder(only_folder(rest)?),
+        [flag, rest @ ..] if flag == PLAY => run_timelines(only_folder(rest)?),
         _ => run_folder(only_folder(words)?),
     };
     let outcome = outcome.map_err(Trouble)?;
@@ -281,7 +349,7 @@ fn run_longer(words: &[String]) -> Result<(), Failure> {
 
 fn run_cases(words: &[String]) -> Result<(), Failure> {
     let known = ["--seed", "--runs", "--into", "--most-bytes"];
-    let options = Options::of(words, &known, &[DAMAGED, WHY, FRESH])?;
+    let options = Options::of(words, &known, &[DAMAGED, WHY, TIMELINES, FRESH])?;
     let seed = options.needed_number("--seed")?;
     let Some(folder) = options.find("--into") else {
         return Err(bad_usage("--into is missing"));
@@ -289,6 +357,7 @@ fn run_cases(words: &[String]) -> Result<(), Failure> {
     let folder = Path::new(folder);
     let mix = match options.task()? {
         Task::Why => return write_questions(&options, seed, folder),
+        Task::Play => return write_timelines(&options, seed, folder),
         Task::Bench(mix) => mix,
     };
     let cases = chosen_cases(&options, mix, seed)?;
@@ -323,6 +392,64 @@ fn write_questions(options: &Options, seed: u64, folder: &Path) -> Result<(), Fa
     stored_questions::write_cases(&choice, folder).map_err(Trouble)?;
     let outcome = stored_questions::run_folder(folder).map_err(Trouble)?;
     print(outcome.report.as_bytes())
+}
+
+fn write_timelines(options: &Options, seed: u64, folder: &Path) -> Result<(), Failure> {
+    if options.has(FRESH) {
+        return Err(bad_usage("--fresh is not for timelines"));
+    }
+    let runs = options.needed_number("--runs")?;
+    let most_bytes = options.number("--most-bytes")?.unwrap_or(u64::MAX);
+    make_folder(folder)?;
+    let mut counts = Counts::default();
+    let mut list = String::new();
+    let all = (0..).map(|number| (number, timelines::case(seed, number)));
+    let fitting = all.filter(|(_, case)| case.stream.len() as u64 <= most_bytes);
+    for (number, case) in fitting.take(runs as usize) {
+        let name = format!("t{seed}-{number:04}");
+        list.push_str(&write_timeline(folder, &name, &case, &mut counts)?);
+    }
+    write_file(&folder.join("cases"), list.as_bytes()).map_err(Trouble)?;
+    print(counts.played.report().as_bytes())
+}
+
+/// Writes the files of one timeline and gives its line of the list.
+fn write_timeline(
+    folder: &Path,
+    name: &str,
+    case: &Case,
+    counts: &mut Counts,
+) -> Result<String, Failure> {
+    let run = checked_play(&case.stream, counts)
+        .map_err(|complaint| Difference(format!("case {name}: {complaint}")))?;
+    write_files(
+        folder,
+        name,
+        &case.stream,
+        &run.text,
+        run.image.as_ref().ok(),
+    )?;
+    let outcome = match run.image {
+        Ok(_) => "accepted".to_string(),
+        Err(refused) => refused.to_string(),
+    };
+    Ok(format!("{name} {} | {outcome}\n", case.description))
+}
+
+fn write_files(
+    folder: &Path,
+    name: &str,
+    stream: &[u8],
+    text: &str,
+    image: Option<&Vec<u8>>,
+) -> Result<(), Failure> {
+    let path = |ending: &str| folder.join(format!("{name}.{ending}"));
+    write_file(&path("in"), stream).map_err(Trouble)?;
+    write_file(&path("out"), text.as_bytes()).map_err(Trouble)?;
+    match image {
+        Some(image) => write_file(&path("fin"), image).map_err(Trouble),
+        None => Ok(()),
+    }
 }
 
 /// The first cases of a seed that fit the options, with their numbers.
@@ -384,12 +511,13 @@ fn write_case(
 ) -> Result<String, Failure> {
     let run = checked_run(&case.stream, counts)
         .map_err(|complaint| Difference(format!("case {name}: {complaint}")))?;
-    let path = |ending: &str| folder.join(format!("{name}.{ending}"));
-    write_file(&path("in"), &case.stream).map_err(Trouble)?;
-    write_file(&path("out"), run.text.as_bytes()).map_err(Trouble)?;
-    if let Ok(image) = &run.image {
-        write_file(&path("fin"), image).map_err(Trouble)?;
-    }
+    write_files(
+        folder,
+        name,
+        &case.stream,
+        &run.text,
+        run.image.as_ref().ok(),
+    )?;
     let description = &case.description;
     Ok(match mix {
         Mix::All => format!("{name} {description}\n"),
@@ -413,6 +541,7 @@ fn run_fuzz(words: &[String]) -> Result<(), Failure> {
     let outcome = fuzz(&plan).map_err(Trouble)?;
     let (report, endings) = match plan.task {
         Task::Why => (outcome.counts.shown.report(), ".in, .id, .want, .got"),
+        Task::Play => (outcome.counts.played.report(), ".in, .want, .got"),
         Task::Bench(_) => (outcome.counts.report(), ".in, .want, .got"),
     };
     print(report.as_bytes())?;
@@ -438,7 +567,7 @@ fn read_plan(words: &[String]) -> Result<Plan, Failure> {
         return Err(bad_usage("a command is missing behind `--`"));
     }
     let known = ["--seed", "--runs", "--seconds", "--workers", "--keep"];
-    let options = Options::of(&words[..end], &known, &[DAMAGED, WHY])?;
+    let options = Options::of(&words[..end], &known, &TASKS)?;
     let until = match (options.number("--runs")?, options.number("--seconds")?) {
         (Some(runs), None) => Until::Runs(runs),
         (None, Some(seconds)) => Until::Time(Duration::from_secs(seconds)),

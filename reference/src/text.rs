@@ -1,8 +1,10 @@
-//! A text form of streams that can be read, compared and written by hand.
+//! A text form of streams and timelines that can be read, compared and written by hand.
 //!
 //! Follows 01, "The image" and "Events", and 02, "Recovery keys", with a word for each number that
 //! has a meaning. Whatever has no words is written in hex, so that every byte string has a text form
 //! that leads back to exactly the same bytes. README.md has the grammar.
+
+mod timelines;
 
 use crate::bench::{event_records, split_stream};
 use crate::events::*;
@@ -11,6 +13,9 @@ use crate::phone::{
     Card, Certificate, Executable, Phone, TableRow, ENABLE_LISTED, ISSUED, MOST_ACTIONS,
     MOST_CARDS, MOST_CERTIFICATES, MOST_EXECUTABLES, RECOVERY, ROOT, TABLE_ROW_SIZE,
 };
+
+pub use timelines::timeline_to_text;
+use timelines::Timeline;
 
 /// A line that could not be understood, and what was expected there.
 #[derive(Clone, Debug, PartialEq, Eq)]
@@ -84,18 +89,32 @@ const HEX_PER_LINE: usize = 24;
 /// The text form of any stream.
 pub fn to_text(stream: &[u8]) -> String {
     let (image, events) = split_stream(stream);
-    let mut lines = match laid_out_phone(image) {
-        Some(phone) => image_lines(&phone),
-        None => image
-            .chunks(HEX_PER_LINE)
-            .map(|bytes| format!("bytes {}", hex(bytes)))
-            .collect(),
-    };
-    if !lines.is_empty() && !events.is_empty() {
+    let lines = event_records(events).map(event_text).collect();
+    put_together(image_part(image), lines)
+}
+
+/// The lines of an image, an empty one, and the lines of what stands behind it.
+fn put_together(image: Vec<String>, behind: Vec<String>) -> String {
+    let mut lines = image;
+    if !lines.is_empty() && !behind.is_empty() {
         lines.push(String::new());
     }
-    lines.extend(event_records(events).map(event_text));
+    lines.extend(behind);
     lines.iter().map(|line| format!("{line}\n")).collect()
+}
+
+fn image_part(image: &[u8]) -> Vec<String> {
+    match laid_out_phone(image) {
+        Some(phone) => image_lines(&phone),
+        None => hex_lines(image),
+    }
+}
+
+fn hex_lines(bytes: &[u8]) -> Vec<String> {
+    let chunks = bytes.chunks(HEX_PER_LINE);
+    chunks
+        .map(|bytes| format!("bytes {}", hex(bytes)))
+        .collect()
 }
 
 /// The phone of an image that keeps I1; the records may break any other rule.
@@ -483,6 +502,24 @@ struct Reading {
     phone: Option<(usize, Phone)>,
     /// The bytes behind the image, or all of them where there is no phone.
     rest: Vec<u8>,
+    /// The line of the first event, and of the first bytes where there is a phone.
+    first_event: Option<usize>,
+    /// What stands behind all these, where the text is a timeline.
+    timeline: Option<Timeline>,
+}
+
+impl Reading {
+    fn is_behind_image(&self) -> bool {
+        !self.rest.is_empty() || self.timeline.is_some()
+    }
+
+    /// Bytes that are no part of a timeline; without a phone they may be its image.
+    fn push(&mut self, words: &Words, bytes: &[u8], are_event: bool) {
+        if are_event || self.phone.is_some() {
+            self.first_event.get_or_insert(words.line);
+        }
+        self.rest.extend(bytes);
+    }
 }
 
 /// The bytes of a text, or the first line that could not be understood.
@@ -506,6 +543,9 @@ pub fn to_bytes(text: &str) -> Result<Vec<u8>, Wrong> {
         None => Vec::new(),
     };
     bytes.extend(reading.rest);
+    if let Some(timeline) = reading.timeline {
+        bytes.extend(timeline.bytes()?);
+    }
     Ok(bytes)
 }
 
@@ -513,23 +553,43 @@ fn read_line(reading: &mut Reading, words: &mut Words) -> Result<(), Wrong> {
     match words.peek() {
         Some("phone") => read_phone(reading, words),
         Some("certificate" | "card" | "executable" | "action") => read_part(reading, words),
+        _ if reading.timeline.is_some() || Timeline::begins_with(words) => {
+            read_timeline_line(reading, words)
+        }
         Some("bytes") => {
             words.at += 1;
-            reading.rest.extend(words.hex(None)?);
+            let bytes = words.hex(None)?;
+            reading.push(words, &bytes, false);
             Ok(())
         }
         _ => {
-            reading.rest.extend(read_event(words)?);
+            let event = read_event(words)?;
+            reading.push(words, &event, true);
             Ok(())
         }
     }
+}
+
+fn read_timeline_line(reading: &mut Reading, words: &mut Words) -> Result<(), Wrong> {
+    let is_first = reading.timeline.is_none();
+    if let Some(line) = reading.first_event {
+        let maker = words.line;
+        return Err(Wrong {
+            line,
+            message: format!(
+                "expected an `at` line before this, since line {maker} makes the text a timeline"
+            ),
+        });
+    }
+    let timeline = reading.timeline.get_or_insert_with(Timeline::default);
+    timeline.read_line(words, is_first)
 }
 
 fn read_phone(reading: &mut Reading, words: &mut Words) -> Result<(), Wrong> {
     if reading.phone.is_some() {
         return words.wrong("expected one phone line only".to_string());
     }
-    if !reading.rest.is_empty() {
+    if reading.is_behind_image() {
         return words.wrong("expected the phone before all events and bytes".to_string());
     }
     words.literal("phone")?;
@@ -554,7 +614,7 @@ fn read_phone(reading: &mut Reading, words: &mut Words) -> Result<(), Wrong> {
 }
 
 fn read_part(reading: &mut Reading, words: &mut Words) -> Result<(), Wrong> {
-    if !reading.rest.is_empty() {
+    if reading.is_behind_image() {
         return words.wrong("expected the parts of the phone before all events and bytes".into());
     }
     let Some((_, phone)) = &mut reading.phone else {
@@ -736,7 +796,8 @@ fn read_event_line(line: &str) -> Result<Vec<u8>, Wrong> {
 
 fn read_event(words: &mut Words) -> Result<Vec<u8>, Wrong> {
     if word_is_strange(words) {
-        return words.expected("phone, certificate, card, executable, action, bytes or an event");
+        return words
+            .expected("phone, certificate, card, executable, action, bytes, at or an event");
     }
     let mut event = Event {
         kind: words.one_of(EVENTS)?,

@@ -5,12 +5,15 @@
 //! files NAME.in (a stream), NAME.out (what `bench` prints) and, where the image is accepted,
 //! NAME.fin (the image after the last event). What is printed has the form of the program
 //! `vectors`, so that the two can be compared whole.
+//!
+//! A folder of timelines is the same with images and timelines, what `play` prints, and NAME.fin
+//! where both are accepted.
 
 use std::path::Path;
 
-use crate::bench::Run;
 use crate::check::{checked_run, Counts};
 use crate::fuzz::{first_difference, write_file};
+use crate::played::checked_play;
 
 /// What the cases of a folder gave.
 pub struct Outcome {
@@ -18,20 +21,48 @@ pub struct Outcome {
     pub differing: u64,
 }
 
+/// What a stored case gives: what is printed, and the image where nothing is refused.
+type Given = (String, Option<Vec<u8>>);
+
 /// Runs all cases of a folder.
 pub fn run_folder(folder: &Path) -> Result<Outcome, String> {
     let mut counts = Counts::default();
+    let mut outcome = run_all(folder, &mut counts, |stream, counts| {
+        let run = checked_run(stream, counts)?;
+        Ok((run.text, run.image.ok()))
+    })?;
+    outcome.report.push_str(&counts.lists());
+    Ok(outcome)
+}
+
+/// Runs all timelines of a folder.
+pub fn run_timelines(folder: &Path) -> Result<Outcome, String> {
+    let mut counts = Counts::default();
+    let mut outcome = run_all(folder, &mut counts, |stream, counts| {
+        let run = checked_play(stream, counts)?;
+        Ok((run.text, run.image.ok()))
+    })?;
+    outcome.report.push_str(&counts.lists());
+    outcome.report.push_str(&counts.played.report());
+    Ok(outcome)
+}
+
+fn run_all(
+    folder: &Path,
+    counts: &mut Counts,
+    run_one: impl Fn(&[u8], &mut Counts) -> Result<Given, String>,
+) -> Result<Outcome, String> {
     let mut report = String::new();
     let (mut run, mut differing) = (0, 0);
     for name in names(folder)? {
         run += 1;
-        if let Err(difference) = run_stored(folder, &name, &mut counts) {
+        let stored = |stream: &[u8]| run_one(stream, counts);
+        if let Err(difference) = compare_stored(folder, &name, stored) {
             differing += 1;
             report.push_str(&format!("case {name} {difference}\n"));
         }
     }
     report.push_str(&format!("{run} cases, {differing} differ\n"));
-    report.push_str(&counts.lists());
     Ok(Outcome { report, differing })
 }
 
@@ -52,14 +83,18 @@ pub fn read(path: &Path) -> Result<Vec<u8>, String> {
 }
 
 /// How a stored case differs; a file that cannot be read is a difference too.
-fn run_stored(folder: &Path, name: &str, counts: &mut Counts) -> Result<(), String> {
+fn compare_stored(
+    folder: &Path,
+    name: &str,
+    run_it: impl FnOnce(&[u8]) -> Result<Given, String>,
+) -> Result<(), String> {
     let path = |ending: &str| folder.join(format!("{name}.{ending}"));
-    let run = checked_run(&read(&path("in"))?, counts)?;
+    let (text, image) = run_it(&read(&path("in"))?)?;
     let want = String::from_utf8_lossy(&read(&path("out"))?).into_owned();
-    if run.text != want {
-        return Err(first_difference(&want, &run.text));
+    if text != want {
+        return Err(first_difference(&want, &text));
     }
-    compare_images(&run, &path("fin"))
+    compare_images(image, &path("fin"))
 }
 
 /// Writes what the reference prints over each stored answer that says something else, and tells
@@ -84,12 +119,12 @@ pub fn rewrite_answers(folder: &Path) -> Result<String, String> {
     Ok(report)
 }
 
-fn compare_images(run: &Run, stored: &Path) -> Result<(), String> {
-    let Ok(image) = &run.image else {
+fn compare_images(image: Option<Vec<u8>>, stored: &Path) -> Result<(), String> {
+    let Some(image) = image else {
         return Ok(());
     };
     let want = read(stored)?;
-    if *image == want {
+    if image == want {
         return Ok(());
     }
     let at = image.iter().zip(&want).take_while(|(a, b)| a == b).count();

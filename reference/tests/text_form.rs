@@ -214,6 +214,6 @@ fn errors_name_the_line_and_what_was_expected() {
     );
     assert_eq!(
         wrong("jump").1,
-        "expected phone, certificate, card, executable, action, bytes or an event, found `jump`"
+        "expected phone, certificate, card, executable, action, bytes, at or an event, found `jump`"
     );
 }

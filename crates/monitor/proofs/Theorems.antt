@@ -1,16 +1,17 @@
 -- WHAT A CALLER READS. Each sentence of bindings/monitor.h with its statement; the files cited hold the arguments. Assumes nothing.
--- l is an image, v an event, b a buffer of events and out one for answers or lines, all of them any bytes; n is the id of an executable;
--- l′ and out′ are what stands there after the call, r is its result.
+-- l is an image, v an event, t a timeline, b a buffer of events and out one for answers or lines, all of them any bytes; n is the id of an
+-- executable; l′, b′ and out′ are what stands there after the call, r is its result.
 -- What the statements speak of: `step`, `run` (rules, specs/Step), `code` (rules, specs/Codes), `explanation` (explanations, specs/Why),
--- `lines-of`, `why-code` (reasons, specs/Lines), and here specs/Told.
+-- `lines-of`, `why-code` (reasons, specs/Lines), `timeline-code`, `timeline-events` (timeline, specs/Timeline), `in-turn` (timeline,
+-- specs/Running), and here specs/Told.
 use Prim.Native.Nat.{ℕ, _+_, _*_, _/_, _%_, _≤_, _<_, min}
 use mathlib.Core.Bool.{true}
-use mathlib.Core.List.{List, _++_}
+use mathlib.Core.List.{List, [], _++_}
 use mathlib.Core.Logic.{_≢_, _↔_}
 use mathlib.Core.Path.{_≡_, refl, sym, ap, _∙_}
 use native.Mathlib.Omega.{arith}
 use lib.ListN.{length, getD, take, drop}
-use Rattle.octets.specs.Octets.{bytes}
+use Rattle.octets.specs.Octets.{bytes, put}
 use Rattle.octets.proofs.ByteLaws.{getD-put-after}
 use Rattle.records.specs.Sizes.{event-size}
 use Rattle.records.specs.Phone.{decode, joined}
@@ -25,12 +26,20 @@ use Rattle.keeping.proofs.EventAnswers.{answer-code, told-where, told-no-fault}
 use Rattle.explanations.specs.Why.{said-link, line, explanation}
 use Rattle.reasons.specs.Lines.{line-size, most-lines, with-lines, why-code, lines-of}
 use Rattle.reasons.proofs.Room.{lines-few, lines-some}
+use Rattle.timeline.specs.Timeline.{timed, timeline-code, timeline-events, most-events}
+use Rattle.timeline.specs.Unrolls.{with-events}
+use Rattle.timeline.specs.Running.{in-turn}
+use Rattle.timeline.proofs.UnrollsTold.{no-events, events-none}
+use Rattle.timeline.proofs.Lengths.{events-few, events-whole}
+use Rattle.timeline.proofs.Theorems.{run-as-events}
 use Rattle.monitor.specs.Told.{packed, opened, told-code, told-domain, told-links, told-rule, told-offset, Stepped}
 use Rattle.monitor.specs.Told.{answer-size, answer-bytes, answer-at, events-of, event-count, answered, Ran}
 use Rattle.monitor.specs.Told.{why-packed, told-lines, line-at, Asked}
+use Rattle.monitor.specs.Told.{timeline-packed, told-events, event-at, Unrolled-for}
 use Rattle.monitor.proofs.RunLaws.{counted, answered-room}
 use Rattle.monitor.proofs.Answers as Answers
 use Rattle.monitor.proofs.AnswerLines as Lines
+use Rattle.monitor.proofs.TimelineTold as Timelines
 
 -- ==== the number that monitor_open and monitor_step answer
 
@@ -185,6 +194,63 @@ module _ (l : List ℕ) (n : ℕ) (out : List ℕ) (r : ℕ) (out′ : List ℕ)
       let e = why-read .0 in
       ap (λ (o : List ℕ). getD o k 0) (s .told) ∙ Lines.line-behind out (lines-of l n) k (omega arith)
 
+-- ==== monitor_timeline
+
+module _ (l t b : List ℕ) (r : ℕ) (b′ : List ℕ) (s : Unrolled-for l t b r b′) where
+  -- "The parts of what monitor_timeline answers": what the shifts give; rule and offset are those of monitor_open
+  pub timeline-read : (told-events r ≡ length (timeline-events l t))
+      × (told-code r ≡ timeline-code l t)
+      × (told-rule r ≡ fault l .rule)
+      × (told-offset r ≡ fault-offset l)
+  timeline-read = rw (s .answer) (Timelines.timeline-unpacked l t)
+
+  count-read : told-events r ≡ length (timeline-events l t)
+  count-read = timeline-read .0
+
+  -- "the number that monitor_open answers" where the image is not accepted
+  pub timeline-opened : accepted l ≢ true → r ≡ packed (opened l)
+  timeline-opened h = s .answer ∙ Timelines.timeline-opened l t h
+
+  -- for code 0 at most 2,000 events, which are those that 02, item 6, runs record by record, by the clock that the phone has then
+  pub timeline-told : told-code r ≡ 0 → (timeline-events l t ≡ in-turn l (timed t)) × (told-events r ≤ most-events)
+  timeline-told z = (sym (run-as-events l t (sym (timeline-read .1) ∙ z)), rw count-read (events-few l t))
+
+  -- "Every code but 0 has no events and leaves the buffer byte for byte."
+  pub timeline-kept : told-code r ≢ 0 → (b′ ≡ b) × (told-events r ≡ 0)
+  timeline-kept h =
+      let e = events-none l t (λ z. h (timeline-read .1 ∙ z)) in
+      (s .events ∙ ap (with-events b) e ∙ sym (no-events b), count-read ∙ ap length e)
+
+  -- "MONITOR_EVENTS_SIZE bytes have room for every one"
+  pub timeline-room : most-events * event-size ≤ length b → told-events r * event-size ≤ length b
+  timeline-room h = let few = events-few l t in let k = count-read in omega arith
+
+  -- in any buffer the i-th event, the first one counted 0, is told where it ends within the buffer,
+  pub timeline-event : (i : ℕ) → i < told-events r → i * event-size + event-size ≤ length b → event-at b′ i ≡ getD (timeline-events l t) i []
+  timeline-event i h room =
+      let k = count-read in
+      ap (λ b. event-at b i) (s .events) ∙ Timelines.event-read b (timeline-events l t) (events-whole l t) i (omega arith) room
+
+  -- and the bytes behind the last that is told are kept
+  pub timeline-behind : (k : ℕ) → min (told-events r) (length b / event-size) * event-size ≤ k → getD b′ k 0 ≡ getD b k 0
+  timeline-behind k h =
+      let e = count-read in
+      ap (λ b. getD b k 0) (s .events) ∙ Timelines.event-behind b (timeline-events l t) (events-whole l t) k (omega arith)
+
+  -- "Running the timeline is monitor_run on them": where the buffer has room for every event and another for every answer
+  pub timeline-run : told-events r * event-size ≤ length b
+      → (out : List ℕ) → told-events r * answer-size ≤ length out
+      → (n : ℕ) (l′ out′ : List ℕ) → Ran l (take (told-events r * event-size) b′) out n l′ out′
+      → (n ≡ told-events r) × (l′ ≡ run l (timeline-events l t)) × (out′ ≡ put out 0 (joined answer-bytes (answers l (timeline-events l t))))
+  timeline-run room out h n l′ out′ ran =
+      let vs = timeline-events l t in
+      let k = count-read in
+      let whole = events-whole l t in
+      let there : take (told-events r * event-size) b′ ≡ joined (λ v. v) vs =
+      ap (λ n. take (n * event-size) b′) k ∙ ap (take (length vs * event-size)) (s .events) ∙ Timelines.all-placed b vs whole (omega arith) in
+      let q = Timelines.run-whole l (take (told-events r * event-size) b′) out vs whole there (omega arith) ran in
+      (q .0 ∙ sym k, q .1, q .2)
+
 -- ==== computed
 
 abbrev granted : Answer
@@ -240,3 +306,15 @@ packed-why-damaged = refl
 -- a chain of two, the root's id 10 and the signer's 300: the second line
 pub lines-chain : line-at (bytes 6 0x01_00_0a_01_01_2c) 1 ≡ line said-link 300
 lines-chain = refl
+
+-- the six events of a timeline, one that is refused, and a damaged image, whose number is that of opening it
+pub packed-events : (timeline-packed (record { code = 0; rule = 0; offset = 0; count = 6 }) ≡ 0x0006) × (told-events 0x0006 ≡ 6) × (told-code 0x0006 ≡ 0)
+packed-events = (refl, refl, refl)
+
+pub packed-untimely : (timeline-packed (record { code = 19; rule = 0; offset = 0; count = 0 }) ≡ 0x130000)
+    × (told-events 0x130000 ≡ 0)
+    × (told-code 0x130000 ≡ 19)
+packed-untimely = (refl, refl, refl)
+
+pub packed-timeline-damaged : timeline-packed (record { code = 1; rule = 4; offset = 88; count = 0 }) ≡ packed damaged
+packed-timeline-damaged = refl

@@ -14,6 +14,9 @@ use Rattle.rules.specs.ImageRules.{accepted}
 use Rattle.explanations.specs.Why.{Line, line}
 use Rattle.reasons.specs.declared.Why.{Why}
 use Rattle.reasons.specs.Lines.{line-size, with-lines, lines-of, why}
+use Rattle.timeline.specs.declared.Unrolled.{Unrolled}
+use Rattle.timeline.specs.Timeline.{timeline-events}
+use Rattle.timeline.specs.Unrolls.{with-events, unroll}
 
 -- ---- one step
 
@@ -114,3 +117,23 @@ line-at out i = line-from out (i * line-size)
 pub record Asked (l : List ℕ) (n : ℕ) (out : List ℕ) (r : ℕ) (out′ : List ℕ) : Type 0 where
   pub answer : r ≡ why-packed (why l n)
   pub told : out′ ≡ with-lines out (take (length out / line-size) (lines-of l n))
+
+-- ---- timelines
+
+-- the answer as one number, from the low byte up: two bytes of the number of events, code, rule, and two bytes of offset, the last three where
+-- `packed` has them
+abbrev pub timeline-packed : Unrolled → ℕ
+timeline-packed u = ((u .offset * 256 + u .rule) * 256 + u .code) * 65536 + u .count
+
+-- what a caller reads from it: MONITOR_EVENTS, the lowest two bytes, and MONITOR_CODE, MONITOR_RULE and MONITOR_OFFSET as above
+abbrev pub told-events : ℕ → ℕ
+told-events n = n % 65536
+
+-- what a caller reads from the buffer as its i-th event, the first one counted 0
+abbrev pub event-at : List ℕ → ℕ → List ℕ
+event-at b i = take event-size (drop (i * event-size) b)
+
+-- the number, and the events that there is room for
+pub record Unrolled-for (l t b : List ℕ) (r : ℕ) (b′ : List ℕ) : Type 0 where
+  pub answer : r ≡ timeline-packed (unroll l t)
+  pub events : b′ ≡ with-events b (timeline-events l t)

@@ -1,7 +1,9 @@
-// The library that a simulator links: opening an image, one event on it, a run of events, and why an executable has its domain or has none.
+// The library that a simulator links: opening an image, one event on it, a run of events, why an executable has its domain or has none, and the
+// events of a timeline.
 use reasons::Why;
 use records::Event;
 use rules::Answer;
+use timeline::Unrolled;
 ghost use mathlib.Core.Path.{_≡_};
 ghost use Prim.Native.Nat.{_+_, _*_, _≤_};
 ghost use lib.ListN.{length, take, drop, replicate};
@@ -11,8 +13,9 @@ ghost use Rattle.records.specs.Phone.{joined};
 ghost use Rattle.rules.specs.AcceptedImage.{Accepted-image};
 ghost use Rattle.events.specs.Stepped.{Stepped-accepted};
 ghost use Rattle.reasons.specs.Lines.{most-lines};
+ghost use Rattle.timeline.specs.Timeline.{most-events};
 ghost use Rattle.monitor.specs.Told.{packed, opened, Stepped, answer-size, answer-bytes, event-count, answered, Followed, Ran};
-ghost use Rattle.monitor.specs.Told.{why-packed, Asked};
+ghost use Rattle.monitor.specs.Told.{why-packed, Asked, timeline-packed, Unrolled-for};
 
 const ANSWER_SIZE: usize = 6;
 
@@ -155,4 +158,24 @@ pub extern "C" fn monitor_why(image: &[u8], id: u16, lines: &mut [u8]) -> u64
 {
     let told = reasons::explain(image, id, lines);
     pack_why(told)
+}
+
+// ---- timelines
+
+// An answer of `timeline` in one register.
+fn pack_timeline(u: Unrolled) -> u64
+    requires { ⌜ u .count ≤ most-events ⌝ }
+    ensures { λ r. ⌜ r ≡ timeline-packed u ⌝ }
+{
+    ((u.offset as u64 * 256 + u.rule as u64) * 256 + u.code as u64) * 65536 + u.count as u64
+}
+
+// The events of a timeline for an image, with the clock events put in, as many whole ones as the buffer has room for: the answer as a number, from
+// the low byte up two bytes of the number of events, code, rule and two bytes of offset, as monitor_why has them. To be run by monitor_run. Any bytes.
+#[no_mangle]
+pub extern "C" fn monitor_timeline(image: &[u8], timeline: &[u8], events: &mut [u8]) -> u64
+    ensures { λ r. ⌜ Unrolled-for (now (image .entry)) (now (timeline .entry)) (now (events .entry)) r (now (events .exit)) ⌝ }
+{
+    let told = timeline::unroll(image, timeline, events);
+    pack_timeline(told)
 }

@@ -432,6 +432,11 @@ one-handling-retire κs a r r′ e e′ = written
 pub one-reasons-reason : One-result Rattle.reasons.proofs.reason.Reads.Learnt
 one-reasons-reason κs a r r′ e e′ = returned
 
+-- ==== timeline
+
+pub one-timeline-fits : One-result Rattle.timeline.proofs.fits.Reads.Learnt
+one-timeline-fits κs a r r′ e e′ = returned
+
 -- ==== monitor
 
 pub one-monitor-open : One-result Rattle.monitor.proofs.monitor_open.Reads.Learnt

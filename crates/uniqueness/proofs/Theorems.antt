@@ -158,7 +158,13 @@ one-events-step κs a r r′ e e′ = one-stepped
 pub one-reasons-explain : One-outcome Rattle.reasons.proofs.explain.Reads.Learnt (λ e. e .1 .1 .0 .now ∷ [])
 one-reasons-explain κs a r r′ e e′ x y = (returned (x .answer) (y .answer), buffer (x .told) (y .told))
 
--- ==== monitor: the answer as a number and the image; the count, the image and the buffer of answers; the answer and the buffer of lines
+-- ==== timeline: the answer, and the buffer of events
+
+pub one-timeline-unroll : One-outcome Rattle.timeline.proofs.unroll.Reads.Learnt (λ e. e .1 .1 .0 .now ∷ [])
+one-timeline-unroll κs a r r′ e e′ x y = (returned (x .answer) (y .answer), buffer (x .events) (y .events))
+
+-- ==== monitor: the answer as a number and the image; the count, the image and the buffer of answers; the answer and the buffer of lines; the answer
+-- and the buffer of events
 
 pub one-monitor-step : One-outcome Rattle.monitor.proofs.monitor_step.Reads.Learnt (λ e. e .0 .now ∷ [])
 one-monitor-step κs a r r′ e e′ x y = (returned (x .answer) (y .answer), buffer (x .image) (y .image))
@@ -177,6 +183,9 @@ one-monitor-run κs a r r′ e e′ x y =
 pub one-monitor-why : One-outcome Rattle.monitor.proofs.monitor_why.Reads.Learnt (λ e. e .1 .1 .0 .now ∷ [])
 one-monitor-why κs a r r′ e e′ x y = (returned (x .answer) (y .answer), buffer (x .told) (y .told))
 
+pub one-monitor-timeline : One-outcome Rattle.monitor.proofs.monitor_timeline.Reads.Learnt (λ e. e .1 .1 .0 .now ∷ [])
+one-monitor-timeline κs a r r′ e e′ x y = (returned (x .answer) (y .answer), buffer (x .events) (y .events))
+
 -- ==== stream: the buffer, and the place behind what was put
 
 pub one-stream-put-number : One-outcome Rattle.stream.proofs.put_number.Reads.Learnt (λ e. e .0 .now ∷ [])
@@ -193,6 +202,9 @@ one-stream-put-heading κs a r r′ e e′ x y = (returned (x .1) (y .1), buffer
 
 pub one-stream-put-line : One-outcome Rattle.stream.proofs.put_line.Reads.Learnt (λ e. e .0 .now ∷ [])
 one-stream-put-line κs a r r′ e e′ x y = (returned (x .1) (y .1), buffer (x .0) (y .0))
+
+pub one-stream-add-line : One-outcome Rattle.stream.proofs.add_line.Reads.Learnt (λ e. e .0 .now ∷ [])
+one-stream-add-line κs a r r′ e e′ x y = (returned (x .1) (y .1), buffer (x .0) (y .0))
 
 -- ==== differences: whether two images differ, and two texts of answers
 

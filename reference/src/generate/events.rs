@@ -104,7 +104,12 @@ fn takes_outlived_marks(random: &mut Random, phone: &Phone) -> Event {
 
 /// Requests and verifies on executables that an event has touched: `bench` prints no state, so
 /// only these show that a mark, a card or a message did what it should and no more.
-fn probes(random: &mut Random, before: &Phone, record: &[u8], after: &Phone) -> Vec<Vec<u8>> {
+pub(super) fn probes(
+    random: &mut Random,
+    before: &Phone,
+    record: &[u8],
+    after: &Phone,
+) -> Vec<Vec<u8>> {
     let touched = touched_executables(before, record, after);
     let mut out = Vec::new();
     for _ in 0..random.between(1, 2) {
@@ -265,7 +270,7 @@ pub(super) fn allowed_actor(random: &mut Random, phone: &Phone, event: &Event) -
 
 /// The clock, the next expiry and what lies beside them. A root's date ends more than that of one
 /// record, so it is not always the next one that counts; one that is far off ends almost everything.
-fn any_new_time(random: &mut Random, phone: &Phone) -> u32 {
+pub(super) fn any_new_time(random: &mut Random, phone: &Phone) -> u32 {
     let kind = random.one_of([ISSUED, ROOT]);
     let most = match random.percent(4) {
         true => u32::MAX - 1,

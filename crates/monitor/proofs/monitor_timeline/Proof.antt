@@ -1,0 +1,9 @@
+use Rattle.timeline.proofs.Lengths.{count-few}
+use Rattle.monitor.proofs.TimelineTold.{unrolled-for}
+use borrow.Author.Needs.{needs}
+use Rattle.monitor.proofs.monitor_timeline.Statement.{statement}
+use Rattle.monitor.proofs.monitor_timeline.Tie as tie
+
+pub monitor-timeline-spec : {M : Type 1} → statement M
+monitor-timeline-spec =
+    tie.close (tie.spec (λ c κs. search needs) (λ c κs. search (needs, count-few)) (λ c. search needs) (λ c. search (needs, unrolled-for)))

@@ -1,0 +1,4 @@
+pub mod Timeline
+pub mod Unrolls
+pub mod Running
+pub mod Played
