@@ -190,6 +190,10 @@ fn event(kind: u8, actor: u8, id: u16, second: u16, key: u32) -> Vec<u8> {
     all.resize(8, 0);
     put32(&mut all, key);
     all.resize(EVENT, 0);
+    // An operator or a manufacturer that deletes or marks a certificate says who it is.
+    if (6..=8).contains(&kind) && (2..=3).contains(&actor) {
+        all[16..20].copy_from_slice(&OWNER.to_be_bytes());
+    }
     all
 }
 

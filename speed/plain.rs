@@ -1221,13 +1221,16 @@ impl<'a> Phone<'a> {
     /// Where the certificate named by an event of kind 6, 7 or 8 stands, after codes 2, 3, 4 and 8.
     #[inline]
     fn certificate_to_change(&self, event: &Event, now: Now) -> Result<usize, u8> {
-        let id = named_id(event)?;
+        let id = owned_id(event)?;
         let slot = certificates_in(self.certificates)
             .position(|record| u16_at(record, certificate::ID) == id)
             .ok_or(UNKNOWN_ID)?;
         let at = slot * certificate::SIZE;
         let record = &self.certificates[at..at + certificate::SIZE];
         check_actor(event, record[certificate::DOMAIN])?;
+        if names_itself(event) && event[event::OWNER..event::EXPIRY] != record[certificate::OWNER..certificate::EXPIRY] {
+            return Err(NOT_ALLOWED);
+        }
         if !now.is_present(record) {
             return Err(CARD_ABSENT);
         }
@@ -1317,6 +1320,26 @@ fn check_actor(event: &Event, domain: u8) -> Result<(), u8> {
     } else {
         Err(NOT_ALLOWED)
     }
+}
+
+/// Whether the actor is an operator or a manufacturer, who says which one it is where it deletes or marks a certificate.
+#[inline]
+fn names_itself(event: &Event) -> bool {
+    (2..=3).contains(&event[event::ACTOR])
+}
+
+/// The id of an event that uses no other field but, by some actors, the owner.
+#[inline]
+fn owned_id(event: &Event) -> Result<u16, u8> {
+    let id = u16_at(event, event::ID);
+    if id == 0
+        || event[event::SECOND..event::OWNER] != [0; 12]
+        || event[event::EXPIRY..] != [0; 4]
+        || !names_itself(event) && event[event::OWNER..event::EXPIRY] != [0; 4]
+    {
+        return Err(MALFORMED);
+    }
+    Ok(id)
 }
 
 /// The id of an event that uses no other field.

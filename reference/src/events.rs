@@ -1,8 +1,8 @@
 //! Events: the record, the codes 2 to 18 as one ordered list of tests, and the effects.
 //!
 //! Follows 01, "Events" and "What an event is told", and 02 for what goes with code 1, for recovery
-//! keys and for the dates of roots. Each test says when its code applies; the answer is the lowest
-//! that applies. A test whose record is missing does not apply.
+//! keys, for the dates of roots and for who an operator is. Each test says when its code applies; the
+//! answer is the lowest that applies. A test whose record is missing does not apply.
 
 use crate::chain::Trust;
 use crate::phone::{
@@ -149,11 +149,22 @@ impl Event {
         self.expiry = at(6) << 16 | at(7);
     }
 
+    /// Whether the owner field says who acts: where an operator or a manufacturer deletes or marks.
+    /// In an install and in a replace it is the owner that a record gets.
+    pub fn names_who_acts(&self) -> bool {
+        deletes_or_marks(self.kind) && matches!(self.actor, OPERATOR_ACTOR | MANUFACTURER_ACTOR)
+    }
+
     /// The ids that the message lists.
     fn listed(&self) -> Vec<u16> {
         let count = usize::from(self.fourth.min(MOST_LISTED));
         self.list_places()[..count].to_vec()
     }
+}
+
+/// The kinds that are about one certificate that is there already, and leave its fields alone.
+pub fn deletes_or_marks(kind: u8) -> bool {
+    matches!(kind, DELETE_CERTIFICATE | MARK_VALID | MARK_INVALID)
 }
 
 /// One event on an image. Code 1 wins over everything; other refusals leave the image alone.
@@ -190,7 +201,7 @@ pub fn code_of(phone: &Phone, event: &Event) -> u8 {
     let tests: [(u8, Test); LAST_CODE as usize - 1] = [
         (2, is_out_of_form),
         (3, names_unknown_id),
-        (4, is_by_wrong_actor),
+        (4, is_by_wrong_actor_or_owner),
         (5, turns_clock_back),
         (6, names_unknown_card),
         (7, finds_card_slot_wrong),
@@ -251,6 +262,12 @@ fn only_used_fields(event: &Event) -> Event {
             ..named
         },
         INSTALL_CERTIFICATE => *event,
+        // Every other actor is nobody in particular and leaves the owner 0.
+        DELETE_CERTIFICATE | MARK_VALID | MARK_INVALID if event.names_who_acts() => Event {
+            id: event.id,
+            owner: event.owner,
+            ..named
+        },
         DELETE_CERTIFICATE | MARK_VALID | MARK_INVALID | DELETE_EXECUTABLE | VERIFY => Event {
             id: event.id,
             ..named
@@ -322,6 +339,18 @@ fn names_unknown_id(phone: &Phone, event: &Event) -> bool {
 }
 
 /// Code 4.
+fn is_by_wrong_actor_or_owner(phone: &Phone, event: &Event) -> bool {
+    is_by_wrong_actor(phone, event) || is_by_wrong_owner(phone, event)
+}
+
+/// The right sort of actor, but another one of the sort than the certificate's owner.
+fn is_by_wrong_owner(phone: &Phone, event: &Event) -> bool {
+    event.names_who_acts()
+        && phone
+            .certificate(event.id)
+            .is_some_and(|record| record.owner != event.owner)
+}
+
 fn is_by_wrong_actor(phone: &Phone, event: &Event) -> bool {
     let domain = match event.kind {
         INSTALL_CERTIFICATE => event.fourth,

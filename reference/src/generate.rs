@@ -269,11 +269,8 @@ fn every_kind_and_actor(random: &mut Random) -> Case {
     let mut stream = phone.encode();
     for kind in 0..=LAST_KIND + 1 {
         for actor in 0..=5 {
-            let event = Event {
-                kind,
-                actor,
-                ..events::candidate(random, &phone, kind)
-            };
+            let event = events::candidate(random, &phone, kind);
+            let event = events::by_actor(random, &phone, event, actor);
             stream.extend(event.encode());
         }
     }

@@ -12,6 +12,7 @@ pub mod events;
 pub mod fuzz;
 pub mod generate;
 pub mod image_rules;
+pub mod own;
 pub mod phone;
 pub mod played;
 pub mod random;

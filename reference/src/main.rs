@@ -14,6 +14,7 @@ use reference::check::{checked_run, Counts};
 use reference::fuzz::{fuzz, kept_name, write_file, Plan, Task, Until};
 use reference::generate::{case_of, longer, timelines, Case, Mix};
 use reference::image_rules::{first_broken, Broken};
+use reference::own::{own, own_timeline};
 use reference::phone::Header;
 use reference::played::checked_play;
 use reference::refusal::open;
@@ -43,6 +44,10 @@ usage: reference SUB-COMMAND
           stream on standard input -> its text form; with --timeline, that of an image and a timeline
   bytes   text form on standard input -> the stream, or the image and the timeline where it has
           `at` lines
+  own [--timeline]
+          stream on standard input -> the stream in which each event 6 to 8 by an operator or a
+          manufacturer names the owner of its certificate, where its own is 0; with --timeline, the
+          same of an image and a timeline
   vectors DIR
           runs the cases of DIR and prints what the program `vectors` prints
   vectors --why DIR
@@ -138,6 +143,11 @@ fn run(arguments: &[String]) -> Result<(), Failure> {
             |stream| print(timeline_to_text(stream).as_bytes()),
         ),
         "bytes" => plain(rest, run_bytes),
+        "own" => stream_or_timeline(
+            rest,
+            |stream| print(&own(stream)),
+            |stream| print(&own_timeline(stream)),
+        ),
         "vectors" => run_vectors(rest),
         "answers" => run_answers(rest),
         "longer" => run_longer(rest),

@@ -1,8 +1,9 @@
 //! A text form of streams and timelines that can be read, compared and written by hand.
 //!
-//! Follows 01, "The image" and "Events", and 02, "Recovery keys", with a word for each number that
-//! has a meaning. Whatever has no words is written in hex, so that every byte string has a text form
-//! that leads back to exactly the same bytes. README.md has the grammar.
+//! Follows 01, "The image" and "Events", and 02, "Recovery keys" and "An operator is somebody in
+//! particular", with a word for each number that has a meaning. Whatever has no words is written in
+//! hex, so that every byte string has a text form that leads back to exactly the same bytes. README.md
+//! has the grammar.
 
 mod timelines;
 
@@ -286,11 +287,14 @@ fn event_text(record: &[u8]) -> String {
 
 /// The event in words, as far as words go: the caller reads them again to make sure.
 fn event_words(event: &Event) -> Option<String> {
-    let head = format!(
+    let mut head = format!(
         "{} by {}",
         word_for(EVENTS, event.kind)?,
         word_for(ACTORS, event.actor)?
     );
+    if event.names_who_acts() {
+        head.push_str(&format!(" {}", event.owner));
+    }
     let tail = match event.kind {
         CLOCK => format!(" to {}", event.key),
         CARD_IN | POWER_UP => format!(" card {}", number_or(event.second.into(), "none")),
@@ -804,7 +808,7 @@ fn read_event(words: &mut Words) -> Result<Vec<u8>, Wrong> {
         ..Event::default()
     };
     words.literal("by")?;
-    event.actor = words.one_of(ACTORS)?;
+    read_actor(words, &mut event)?;
     match event.kind {
         CLOCK => {
             words.literal("to")?;
@@ -830,6 +834,21 @@ fn read_event(words: &mut Words) -> Result<Vec<u8>, Wrong> {
         _ => {}
     }
     Ok(event.encode())
+}
+
+/// The actor, and behind an operator or a manufacturer that deletes or marks a certificate, which one.
+fn read_actor(words: &mut Words, event: &mut Event) -> Result<(), Wrong> {
+    let name = words.peek();
+    event.actor = words.one_of(ACTORS)?;
+    if event.names_who_acts() {
+        let what = format!("the {}'s owner number", name.unwrap_or("actor"));
+        event.owner = words.number(&what)?;
+    } else if words.peek().is_some_and(|word| decimal(word).is_some()) {
+        return words.expected(
+            "no owner number, which only an operator or a manufacturer has that deletes or marks a certificate",
+        );
+    }
+    Ok(())
 }
 
 fn word_is_strange(words: &Words) -> bool {

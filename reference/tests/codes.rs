@@ -99,7 +99,7 @@ fn every_byte_of_a_card_out_counts() {
 
 #[test]
 fn code_3_is_an_unknown_id_in_its_own_table() {
-    assert_eq!(code("mark-valid by operator certificate 99"), 3);
+    assert_eq!(code("mark-valid by operator 500 certificate 99"), 3);
     // 3 is a certificate's id, and no executable's.
     assert_eq!(code("verify by device executable 3"), 3);
     assert_eq!(code("configuration by administrator enable-listed 7,99"), 3);
@@ -110,10 +110,10 @@ fn code_3_is_an_unknown_id_in_its_own_table() {
 fn code_4_goes_by_kind_and_domain() {
     assert_eq!(code("clock by user to 100"), 4);
     assert_eq!(code("mark-valid by user certificate 2"), 4);
-    assert_eq!(code("delete-certificate by operator certificate 7"), 4);
+    assert_eq!(code("delete-certificate by operator 0 certificate 7"), 4);
     assert_eq!(code("mark-invalid by user certificate 7"), 4);
     assert_eq!(code("delete-certificate by user certificate 7"), 0);
-    assert_eq!(code("mark-invalid by manufacturer certificate 9"), 4);
+    assert_eq!(code("mark-invalid by manufacturer 0 certificate 9"), 4);
     assert_eq!(
         code("install-executable by device executable 9 unsigned"),
         4
@@ -161,7 +161,7 @@ fn codes_5_to_7_are_about_clock_and_card() {
 
 #[test]
 fn code_8_is_about_absent_cards() {
-    assert_eq!(code("mark-invalid by operator certificate 4"), 8);
+    assert_eq!(code("mark-invalid by operator 600 certificate 4"), 8);
     assert_eq!(code("delete-certificate by user certificate 8"), 8);
     let install = "install-certificate by operator certificate 50 on card 2 root operator";
     assert_eq!(code(&format!("{install} key 50 owner 500 expiry 0")), 8);
@@ -208,17 +208,18 @@ install-executable by user executable 4 signed 1";
 
 #[test]
 fn codes_11_to_13_are_about_marking() {
-    assert_eq!(code("mark-valid by operator certificate 1"), 11);
-    assert_eq!(code("mark-invalid by operator certificate 1"), 0);
-    assert_eq!(code("mark-valid by operator certificate 9"), 12);
-    assert_eq!(code("mark-invalid by operator certificate 9"), 12);
+    assert_eq!(code("mark-valid by operator 600 certificate 1"), 11);
+    assert_eq!(code("mark-invalid by operator 600 certificate 1"), 0);
+    assert_eq!(code("mark-valid by operator 0 certificate 9"), 12);
+    assert_eq!(code("mark-invalid by operator 0 certificate 9"), 12);
     assert_eq!(code("configuration by administrator enable-listed 7,2"), 12);
-    assert_eq!(code("mark-valid by manufacturer certificate 6"), 13);
-    assert_eq!(code("mark-valid by manufacturer certificate 5"), 0);
-    assert_eq!(code("mark-valid by operator certificate 10"), 13);
-    assert_eq!(code("mark-valid by operator certificate 2"), 0);
+    assert_eq!(code("mark-valid by manufacturer 0 certificate 6"), 13);
+    assert_eq!(code("mark-valid by manufacturer 0 certificate 5"), 0);
+    assert_eq!(code("mark-valid by operator 500 certificate 10"), 13);
+    assert_eq!(code("mark-valid by operator 500 certificate 2"), 0);
     // The card's own root is valid now, so the phone's may not be.
-    let events = "mark-valid by operator certificate 3\nmark-valid by operator certificate 2";
+    let events =
+        "mark-valid by operator 500 certificate 3\nmark-valid by operator 500 certificate 2";
     assert_eq!(codes(IMAGE, events), [0, 13]);
     let phone = phone_after(IMAGE, events);
     assert_eq!(phone.certificate(2).map(|c| c.mark), Some(0));

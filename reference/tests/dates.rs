@@ -262,7 +262,7 @@ fn what_is_so_already_takes_the_marks_past_their_date_all_the_same() {
     // Power up with the card that is in, and its valid root marked valid.
     for event in [
         "power-up by device card 2",
-        "mark-valid by operator certificate 19",
+        "mark-valid by operator 600 certificate 19",
     ] {
         assert_eq!(codes(&image, event), [0]);
         assert_eq!(marks(&image, event), [0, 0, 0]);
@@ -273,7 +273,10 @@ fn what_is_so_already_takes_the_marks_past_their_date_all_the_same() {
         .replace("executable 2 manufacturer", "executable 2 untrusted")
         .replace("executable 3 third-party", "executable 3 untrusted");
     assert_eq!(marks(&later, "power-up by device card 2"), [0, 0, 1]);
-    assert_eq!(codes(&later, "mark-valid by operator certificate 19"), [18]);
+    assert_eq!(
+        codes(&later, "mark-valid by operator 600 certificate 19"),
+        [18]
+    );
     // No root on the phone is valid, and a card comes.
     let away = image.replace("card 2 clock", "card none clock");
     for event in ["card-in by device card 2", "power-up by device card 2"] {
@@ -284,7 +287,7 @@ fn what_is_so_already_takes_the_marks_past_their_date_all_the_same() {
 
 #[test]
 fn marking_a_cards_root_valid_takes_the_marks_past_their_date_too() {
-    let events = "card-in by device card 1\nmark-valid by operator certificate 18";
+    let events = "card-in by device card 1\nmark-valid by operator 500 certificate 18";
     assert_eq!(codes(IMAGE, events), [0, 0]);
     let phone = phone_after(IMAGE, events);
     let on_phone = [10, 11, 12].map(|id| mark(&phone, id));
@@ -297,8 +300,8 @@ fn marking_a_cards_root_valid_takes_the_marks_past_their_date_too() {
 fn code_13_sees_no_root_past_its_date() {
     let at = |second: u32, event: &str| code_after(&format!("clock by device to {second}"), event);
     for event in [
-        "mark-valid by operator certificate 13",
-        "mark-valid by manufacturer certificate 22",
+        "mark-valid by operator 500 certificate 13",
+        "mark-valid by manufacturer 70 certificate 22",
         "replace by operator certificate 13 with 40 key 113 by 40 owner 500 expiry 900",
         "replace by manufacturer certificate 22 with 41 key 122 by 41 owner 70 expiry 900",
     ] {
@@ -308,7 +311,7 @@ fn code_13_sees_no_root_past_its_date() {
     }
     // On a card, another one of that card.
     let on_card = "card-in by device card 1";
-    let event = "mark-valid by operator certificate 18";
+    let event = "mark-valid by operator 500 certificate 18";
     assert_eq!(code_after(on_card, event), 0);
     let earlier = changed(&[("key 17 owner 500 expiry 99", "key 17 owner 500 expiry 100")]);
     let both = format!("{on_card}\n{event}");
@@ -317,7 +320,7 @@ fn code_13_sees_no_root_past_its_date() {
     assert_eq!(codes(&earlier, &later), [0, 0, 0]);
     // For one on the phone, another on the present card.
     let on_card = "card-in by device card 2";
-    let event = "mark-valid by operator certificate 15";
+    let event = "mark-valid by operator 600 certificate 15";
     assert_eq!(code_after(on_card, event), 13);
     let later = format!("{on_card}\nclock by device to 101");
     assert_eq!(code_after(&later, event), 0);
@@ -327,43 +330,47 @@ fn code_13_sees_no_root_past_its_date() {
 fn code_18_is_about_the_date_of_the_root_to_mark() {
     let at = |second: u32, event: &str| code_after(&format!("clock by device to {second}"), event);
     // Where it is marked already, where it is not, and for each domain.
-    assert_eq!(code("mark-valid by operator certificate 10"), 0);
-    assert_eq!(at(101, "mark-valid by operator certificate 10"), 18);
-    assert_eq!(at(101, "mark-valid by operator certificate 11"), 18);
-    assert_eq!(at(101, "mark-valid by operator certificate 14"), 18);
-    assert_eq!(at(900, "mark-valid by operator certificate 13"), 0);
-    assert_eq!(at(901, "mark-valid by operator certificate 13"), 18);
-    assert_eq!(code("mark-valid by manufacturer certificate 20"), 0);
-    assert_eq!(at(101, "mark-valid by manufacturer certificate 20"), 18);
-    assert_eq!(at(101, "mark-valid by manufacturer certificate 23"), 18);
+    assert_eq!(code("mark-valid by operator 500 certificate 10"), 0);
+    assert_eq!(at(101, "mark-valid by operator 500 certificate 10"), 18);
+    assert_eq!(at(101, "mark-valid by operator 500 certificate 11"), 18);
+    assert_eq!(at(101, "mark-valid by operator 500 certificate 14"), 18);
+    assert_eq!(at(900, "mark-valid by operator 500 certificate 13"), 0);
+    assert_eq!(at(901, "mark-valid by operator 500 certificate 13"), 18);
+    assert_eq!(code("mark-valid by manufacturer 70 certificate 20"), 0);
+    assert_eq!(at(101, "mark-valid by manufacturer 70 certificate 20"), 18);
+    assert_eq!(at(101, "mark-valid by manufacturer 70 certificate 23"), 18);
     assert_eq!(code("mark-valid by administrator certificate 30"), 0);
     for id in [31, 32, 33] {
         let event = format!("mark-valid by administrator certificate {id}");
         assert_eq!(code(&event), 18);
     }
     // On the present card.
-    let event = "mark-valid by operator certificate 17";
+    let event = "mark-valid by operator 500 certificate 17";
     assert_eq!(code_after("card-in by device card 1", event), 18);
     // A mark can be taken all the same, and then it is gone.
-    let events = "mark-invalid by operator certificate 11\nmark-valid by operator certificate 11";
+    let events =
+        "mark-invalid by operator 500 certificate 11\nmark-valid by operator 500 certificate 11";
     assert_eq!(at(101, events), 18);
-    assert_eq!(unmarked("mark-invalid by operator certificate 11"), [11]);
+    assert_eq!(
+        unmarked("mark-invalid by operator 500 certificate 11"),
+        [11]
+    );
 }
 
 #[test]
 fn code_18_comes_after_every_other() {
     assert_eq!(code("mark-valid by user certificate 32"), 4);
-    assert_eq!(code("mark-valid by operator certificate 17"), 8);
+    assert_eq!(code("mark-valid by operator 500 certificate 17"), 8);
     let other_card = "card-in by device card 2";
-    let strange = "mark-valid by operator certificate 14";
+    let strange = "mark-valid by operator 500 certificate 14";
     assert_eq!(code_after(other_card, strange), 11);
     // Issued and recovery records past their date.
-    assert_eq!(code("mark-valid by operator certificate 42"), 12);
-    assert_eq!(code("mark-valid by operator certificate 40"), 12);
+    assert_eq!(code("mark-valid by operator 500 certificate 42"), 12);
+    assert_eq!(code("mark-valid by operator 500 certificate 40"), 12);
     // 10 and 20 are valid at second 100.
-    assert_eq!(code("mark-valid by operator certificate 11"), 13);
-    assert_eq!(code("mark-valid by operator certificate 14"), 13);
-    assert_eq!(code("mark-valid by manufacturer certificate 23"), 13);
+    assert_eq!(code("mark-valid by operator 500 certificate 11"), 13);
+    assert_eq!(code("mark-valid by operator 500 certificate 14"), 13);
+    assert_eq!(code("mark-valid by manufacturer 70 certificate 23"), 13);
     let old = "expiry 99";
     let replace = "replace by operator certificate 10 with 40";
     assert_eq!(code(&format!("{replace} key 0 by 40 owner 500 {old}")), 2);
@@ -484,6 +491,6 @@ fn why_tells_a_root_that_is_past_its_date() {
     let card = "card-in by device card 1";
     assert_eq!(why(card, 8), "certificate 34 is past its date\n");
     // The date has no say in marking.
-    let unmarked = "mark-invalid by operator certificate 11";
+    let unmarked = "mark-invalid by operator 500 certificate 11";
     assert_eq!(why(unmarked, 9), "certificate 11 is marked invalid\n");
 }

@@ -104,7 +104,7 @@ fn the_root_keeps_its_id_and_slot_and_takes_key_owner_and_date() {
 #[test]
 fn a_root_without_a_mark_is_marked_valid() {
     let events = "\
-mark-invalid by operator certificate 10
+mark-invalid by operator 500 certificate 10
 replace by operator certificate 9 with 40 key 1002 by 4000 owner 500 expiry 100
 verify by device executable 3";
     assert_eq!(answers(IMAGE, events), [(0, 0, 0), (0, 0, 0), (0, 1, 1)]);
@@ -287,7 +287,10 @@ fn code_11_goes_by_the_owner_that_the_root_has_before() {
     // The root's is the card's, and the event's is not: the card's valid root comes first.
     let root = "replace by operator certificate 13 with 41 key 1002 by 4100 owner 500 expiry 900";
     assert_eq!(code_after(&card_in(2), root), 13);
-    let events = format!("{}\nmark-invalid by operator certificate 15", card_in(2));
+    let events = format!(
+        "{}\nmark-invalid by operator 600 certificate 15",
+        card_in(2)
+    );
     assert_eq!(code_after(&events, root), 17);
     let root = root.replace("owner 500", "owner 600");
     assert_eq!(code_after(&events, &root), 0);
@@ -311,14 +314,14 @@ fn code_12_is_about_what_is_no_root() {
         assert_eq!(code_after("card-in by device card 2", &event), 12);
     }
     // Marking a recovery record, by whom it may be marked and by others.
-    assert_eq!(code("mark-valid by operator certificate 40"), 12);
-    assert_eq!(code("mark-invalid by operator certificate 40"), 12);
-    assert_eq!(code("mark-valid by manufacturer certificate 42"), 12);
+    assert_eq!(code("mark-valid by operator 500 certificate 40"), 12);
+    assert_eq!(code("mark-invalid by operator 500 certificate 40"), 12);
+    assert_eq!(code("mark-valid by manufacturer 70 certificate 42"), 12);
     assert_eq!(code("mark-valid by administrator certificate 42"), 4);
     assert_eq!(
         code_after(
             "card-in by device card 1",
-            "mark-valid by operator certificate 41"
+            "mark-valid by operator 600 certificate 41"
         ),
         12
     );
@@ -334,21 +337,24 @@ fn code_13_is_about_another_valid_root() {
     let second = DONE.replace("certificate 10", "certificate 9");
     assert_eq!(code(&second), 13);
     assert_eq!(
-        code_after("mark-invalid by operator certificate 10", &second),
+        code_after("mark-invalid by operator 500 certificate 10", &second),
         0
     );
     let manufacturer =
         "replace by manufacturer certificate 21 with 42 key 2002 by 4200 owner 70 expiry 900";
     assert_eq!(code(manufacturer), 13);
     assert_eq!(
-        code_after("mark-invalid by manufacturer certificate 20", manufacturer),
+        code_after(
+            "mark-invalid by manufacturer 70 certificate 20",
+            manufacturer
+        ),
         0
     );
     // The present card's root takes the mark of the phone's, and is another one then.
     let events = "\
-mark-invalid by operator certificate 10
+mark-invalid by operator 500 certificate 10
 card-in by device card 1
-mark-valid by operator certificate 14";
+mark-valid by operator 500 certificate 14";
     assert_eq!(code_after(events, DONE), 13);
     // On an absent card it is none.
     assert_eq!(
@@ -440,6 +446,8 @@ fn a_recovery_record_is_installed_without_a_mark_and_deleted() {
             code(&INSTALL.replace("by operator", &format!("by {actor}"))),
             4
         );
+    }
+    for actor in ["device", "user", "manufacturer 500", "administrator"] {
         let delete = format!("delete-certificate by {actor} certificate 40");
         assert_eq!(code(&delete), 4);
     }
@@ -454,7 +462,7 @@ fn a_recovery_record_is_installed_without_a_mark_and_deleted() {
     assert_eq!(codes(IMAGE, &format!("{INSTALL}\n{second}")), [0, 14]);
     // Its owner is bound by no card.
     assert_eq!(code_after("card-in by device card 1", INSTALL), 0);
-    let delete = "delete-certificate by operator certificate 40";
+    let delete = "delete-certificate by operator 500 certificate 40";
     assert_eq!(code(delete), 0);
     assert_eq!(phone_after(IMAGE, delete).certificate(40), None);
     assert_eq!(code_after(delete, DONE), 3);
@@ -580,7 +588,7 @@ fn i5_and_the_card_rule_leave_recovery_records_alone() {
         "card-in by device card 1",
         "card-in by device card 2\ncard-out by device",
         "power-up by device card 2",
-        "card-in by device card 1\nmark-valid by operator certificate 14",
+        "card-in by device card 1\nmark-valid by operator 500 certificate 14",
         "configuration by administrator disable-all",
         "configuration by administrator enable-listed 30",
     ] {
@@ -641,7 +649,7 @@ fn why_tells_a_recovery_key_before_any_other_reason() {
     );
     let twins = "\
 install-certificate by operator certificate 39 on phone root operator key 4000 owner 500 expiry 0
-delete-certificate by operator certificate 9
+delete-certificate by operator 500 certificate 9
 install-certificate by operator certificate 99 on phone issued operator key 4000 by 7 owner 0 expiry 99";
     assert_eq!(
         why(twins, 4),

@@ -48,8 +48,8 @@ action 0 untrusted ask operator free manufacturer free third-party ask
 replace by operator certificate 10 with 40 key 1002 by 4000 owner 500 expiry 900
 install-certificate by operator certificate 41 on phone recovery operator key 4001 owner 500 expiry 1000
 install-certificate by user certificate 42 on card 3 recovery third-party key 4001 owner 0 expiry 0
-delete-certificate by operator certificate 40
-mark-valid by operator certificate 41
+delete-certificate by operator 500 certificate 40
+mark-valid by operator 500 certificate 41
 ";
 
 #[test]
@@ -95,6 +95,52 @@ fn a_recovery_record_that_breaks_a_rule_is_in_words_as_far_as_they_go() {
     assert!(to_text(&stream).contains("\nbytes 10 02 00 0a 00 28 01 00 "));
 }
 
+/// Who deletes and marks: an operator and a manufacturer each with an owner number, others without.
+const WHO_ACTS: &str = "\
+mark-valid by operator 500 certificate 10
+delete-certificate by manufacturer 70 certificate 3
+mark-invalid by operator 0 certificate 10
+mark-invalid by manufacturer 4294967295 certificate 65535
+delete-certificate by user certificate 30
+mark-valid by administrator certificate 30
+mark-invalid by device certificate 30
+";
+
+#[test]
+fn who_acts_has_words_both_ways() {
+    let text = format!("{}\n\n{WHO_ACTS}", worked_image());
+    let stream = to_bytes(&text).expect("text");
+    assert_eq!(to_text(&stream), text);
+    let mut mark = [0; 24];
+    mark[..4].copy_from_slice(&[7, 2, 0, 10]);
+    mark[18..20].copy_from_slice(&[1, 244]);
+    assert_eq!(stream[184..208], mark);
+    assert_eq!(stream[184 + 3 * 24 + 16..][..4], [255; 4]);
+    for at in 184..stream.len() {
+        for value in [0, 1, 2, 3, 4, 5, 6, 7, 8, 9, 255] {
+            let mut changed = stream.clone();
+            changed[at] = value;
+            leads_back(&changed);
+        }
+    }
+}
+
+#[test]
+fn an_owner_of_nobody_in_particular_is_in_hex() {
+    let image = worked_image();
+    for (actor, name) in [("00", "device"), ("01", "user"), ("04", "administrator")] {
+        for kind in ["06", "07", "08"] {
+            let rest = "00 1e 00 00 00 00 00 00 00 00 00 00 00 00 00 00 01 f4 00 00 00 00";
+            let text = format!("{image}\n\nbytes {kind} {actor} {rest}\n");
+            let stream = to_bytes(&text).expect("text");
+            assert_eq!(to_text(&stream), text, "{name}");
+        }
+    }
+    // So is a field that is not used beside an owner that is.
+    let text = format!("{image}\n\nbytes 07 02 00 0a 00 00 00 00 00 00 00 00 00 00 00 00 00 00 01 f4 00 00 00 01\n");
+    assert_eq!(to_text(&to_bytes(&text).expect("text")), text);
+}
+
 #[test]
 fn comments_and_empty_lines_are_left_out() {
     let with_comments = WORKED_RUN
@@ -124,6 +170,8 @@ fn wrong(text: &str) -> (usize, String) {
         Ok(_) => panic!("this should not have been read: {text}"),
     }
 }
+
+const NO_OWNER: &str = "expected no owner number, which only an operator or a manufacturer has that deletes or marks a certificate";
 
 #[test]
 fn errors_name_the_line_and_what_was_expected() {
@@ -207,6 +255,41 @@ fn errors_name_the_line_and_what_was_expected() {
         at_12("replace by operator certificate 10 with 40 key 1002 owner 500 expiry 900"),
         (12, "expected `by`, found `owner`".into())
     );
+    for kind in ["delete-certificate", "mark-valid", "mark-invalid"] {
+        for actor in ["operator", "manufacturer"] {
+            let missing = format!(
+                "expected the {actor}'s owner number, a number from 0 to 4294967295, found `certificate`"
+            );
+            assert_eq!(
+                at_12(&format!("{kind} by {actor} certificate 10")),
+                (12, missing)
+            );
+        }
+        for actor in ["device", "user", "administrator"] {
+            let too_much = at_12(&format!("{kind} by {actor} 500 certificate 10"));
+            assert_eq!(too_much, (12, format!("{NO_OWNER}, found `500`")));
+        }
+    }
+    assert_eq!(
+        at_12("mark-valid by operator 4294967296 certificate 10").1,
+        "expected the operator's owner number, a number from 0 to 4294967295, found `4294967296`"
+    );
+    assert_eq!(
+        at_12("mark-valid by operator owner 500 certificate 10").1,
+        "expected the operator's owner number, a number from 0 to 4294967295, found `owner`"
+    );
+    assert_eq!(
+        at_12("mark-valid by operator 500 600 certificate 10").1,
+        "expected `certificate`, found `600`"
+    );
+    // An install and a replace have their owner further on.
+    for event in [
+        "install-certificate by operator 500 certificate 40 on phone root operator key 1 owner 2 expiry 3",
+        "replace by operator 500 certificate 10 with 40 key 1 by 2 owner 3 expiry 4",
+        "delete-executable by operator 500 executable 1",
+    ] {
+        assert_eq!(at_12(event).1, format!("{NO_OWNER}, found `500`"));
+    }
     assert_eq!(wrong("\ncertificate free").0, 2);
     assert_eq!(
         wrong("phone mode 1 card none clock 1").1,

@@ -130,7 +130,7 @@ fn dates_pass_between_the_events() {
         played(&format!("at 200\n{verify}\nat 201\n{verify}")),
         "1 1 0 0 0\n2 12 0 1 2\n3 1 0 0 0\n4 12 0 0 0\n"
     );
-    let mark = "mark-valid by operator certificate 10";
+    let mark = "mark-valid by operator 500 certificate 10";
     assert_eq!(
         played(&format!("at 1000\n{mark}\nat 1001\n{mark}")),
         "1 1 0 0 0\n2 7 0 0 0\n3 1 0 0 0\n4 7 18 0 0\n"

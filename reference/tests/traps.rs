@@ -40,8 +40,8 @@ action 0 untrusted never operator free manufacturer free third-party free";
 fn a_key_that_comes_back_brings_no_trust_without_verify() {
     let events = "\
 request by device executable 1 action 1
-mark-invalid by operator certificate 10
-mark-valid by operator certificate 10
+mark-invalid by operator 500 certificate 10
+mark-valid by operator 500 certificate 10
 request by device executable 1 action 1
 verify by device executable 1
 request by device executable 1 action 1";
@@ -65,7 +65,7 @@ request by device executable 1 action 1";
 #[test]
 fn installing_takes_the_lowest_free_slot() {
     let events = "\
-delete-certificate by operator certificate 10
+delete-certificate by operator 500 certificate 10
 install-certificate by manufacturer certificate 7 on phone root manufacturer key 7 owner 0 expiry 0";
     let phone = phone_after(worked_image(), events);
     assert_eq!(

@@ -362,7 +362,7 @@ clock by user to 999
 clock by device to 200
 clock by device to 201
 power-up by device card 2
-mark-invalid by operator certificate 10
+mark-invalid by operator 500 certificate 10
 delete-executable by user executable 1
 bytes 00 01 02";
 
@@ -388,8 +388,8 @@ fn events_run_before_the_question_and_refused_ones_count() {
 #[test]
 fn a_chain_that_comes_back_is_told_with_the_line_after_it() {
     let events = "\
-mark-invalid by operator certificate 10
-mark-valid by operator certificate 10
+mark-invalid by operator 500 certificate 10
+mark-valid by operator 500 certificate 10
 verify by device executable 1";
     let after = |count: u16| told_after(worked_image(), events, 1, count);
     let lines = [

@@ -11,7 +11,7 @@ use Rattle.rules.specs.Words.{any, Check, _⇒_, first}
 use Rattle.rules.specs.Chains.{present}
 use Rattle.rules.specs.ImageRules.{certificate-fits, known-place, operator-of, operator-root, third-party-root}
 use Rattle.rules.specs.Actors.{may-act}
-use Rattle.rules.specs.Forms.{new-certificate, listed, with-kind, id-form, message-form, replace-form}
+use Rattle.rules.specs.Forms.{new-certificate, listed, with-kind, owned-form, message-form, replace-form}
 use Rattle.rules.specs.Codes.{has-id, in-another, certificate-named, certificate-known, code-of}
 use Rattle.handling.specs.Plans.{certificate-rows}
 use Rattle.handling.proofs.CodeRows.{Gives, gives}
@@ -33,7 +33,7 @@ install-rows p e c =
 
 -- on the certificate that is named; l are the rows after these
 abbrev pub on-rows : ℕ → Phone → Event → List Check → List Check
-on-rows k p e l = (not (id-form p e) ⇒ 2) ∷ (certificate-rows k false p e ++ l)
+on-rows k p e l = (not (owned-form p e) ⇒ 2) ∷ (certificate-rows k false p e ++ l)
 
 -- c is the certificate to mark invalid
 abbrev pub root-row : Certificate → List Check
@@ -70,15 +70,15 @@ module _ (p : Phone) (e : Event) (a : e .actor < 5) where
 
   pub delete-told : first (on-rows 6 p e []) ≡ code-of p (with-kind 6 e)
   unfolding the-table
-  delete-told = simp (small-actor e a, and-true, or-false)
+  delete-told = simp (small-actor e a, or-false)
 
   pub mark-valid-told : first (on-rows 7 p e (marking-rows p (certificate-named p (e .id)))) ≡ code-of p (with-kind 7 e)
   unfolding the-table
-  mark-valid-told = simp (small-actor e a, and-true, or-false)
+  mark-valid-told = simp (small-actor e a, or-false)
 
   pub mark-invalid-told : first (on-rows 8 p e (root-row (certificate-named p (e .id)))) ≡ code-of p (with-kind 8 e)
   unfolding the-table
-  mark-invalid-told = simp (small-actor e a, and-true, or-false)
+  mark-invalid-told = simp (small-actor e a, or-false)
 
   pub replace-told : first (replace-rows p e (certificate-named p (e .second))) ≡ code-of p (with-kind 16 e)
   unfolding the-table

@@ -11,7 +11,7 @@ use Rattle.records.specs.Phone.{Phone, certificate-at}
 use Rattle.records.specs.declared.Certificate.{Certificate}
 use Rattle.records.specs.declared.Event.{Event}
 use Rattle.rules.specs.Words.{Check, _⇒_, first, first-place}
-use Rattle.rules.specs.Forms.{with-kind, forms, no-form, id-form}
+use Rattle.rules.specs.Forms.{with-kind, forms, no-form, owned-form}
 use Rattle.rules.specs.Codes.{has-id, names-certificate, certificate-known, certificate-named, code-of}
 use Rattle.handling.specs.declared.Plan.{Plan}
 use Rattle.handling.specs.Plans.{plan, on-certificate, certificate-rows}
@@ -49,7 +49,7 @@ module _ (k : ℕ) (nobody : Bool) (p : Phone) (e : Event) {r : Plan} (rows : r 
 pub record Onward (k : ℕ) (p : Phone) (e : Event) (m : List Check) (r : Plan) : Type 0 where
   pub told : first (on-rows k p e m) ≡ code-of p (with-kind k e)
   pub form : Bool
-  pub answers : form ≡ id-form p e
+  pub answers : form ≡ owned-form p e
   pub right : not form ≡ false
   pub rows : r ≡ certificate-plan k false p e
 
@@ -58,7 +58,7 @@ module _ {k : ℕ} {p : Phone} {e : Event} {m : List Check} {r : Plan} (o : Onwa
   on-it = certificate-rows k false p e
 
   whole : {t : Plan} → t ≡ plan (first (on-it ++ m)) (place p e) → t ≡ on-certificate k p e
-  whole = formed (code-of p (with-kind k e)) (place p e) (id-form p e) (on-it ++ m) (o .told) (o .answers) (o .right)
+  whole = formed (code-of p (with-kind k e)) (place p e) (owned-form p e) (on-it ++ m) (o .told) (o .answers) (o .right)
 
   -- they refuse it
   pub row-refuses : {c : ℕ} → r ≡ Plan.Refused c → Plan.Refused c ≡ on-certificate k p e

@@ -80,7 +80,7 @@ fn on_certificate(s: &[u8], e: Event, kind: u8, nobody: bool) -> Plan
         Found::Nowhere => Plan::Refused(3),
         Found::At(slot) => {
             let c = image::certificate(s, slot);
-            if !actors::may_act(kind, c.domain, e.actor) | nobody {
+            if !(actors::may_act(kind, c.domain, e.actor) & actors::acts_for(kind, e, c)) | nobody {
                 return Plan::Refused(4);
             }
             if !terms::is_present(s, c) {
@@ -97,7 +97,7 @@ pub fn delete_certificate(s: &[u8], e: Event) -> Plan
     requires { ⌜ e .actor < 5 ⌝ }
     ensures { λ r. ⌜ r ≡ on-certificate 6 (decode (now (s .entry))) e ⌝ }
 {
-    if !forms::id_form(e) {
+    if !forms::owned_form(e) {
         return Plan::Refused(2);
     }
     on_certificate(s, e, Event::DELETE_CERTIFICATE, false)
@@ -195,7 +195,7 @@ pub fn mark_valid(s: &[u8], e: Event) -> Plan
     requires { ⌜ e .actor < 5 ⌝ }
     ensures { λ r. ⌜ r ≡ on-certificate 7 (decode (now (s .entry))) e ⌝ }
 {
-    if !forms::id_form(e) {
+    if !forms::owned_form(e) {
         return Plan::Refused(2);
     }
     match on_certificate(s, e, Event::MARK_VALID, false) {
@@ -216,7 +216,7 @@ pub fn mark_invalid(s: &[u8], e: Event) -> Plan
     requires { ⌜ e .actor < 5 ⌝ }
     ensures { λ r. ⌜ r ≡ on-certificate 8 (decode (now (s .entry))) e ⌝ }
 {
-    if !forms::id_form(e) {
+    if !forms::owned_form(e) {
         return Plan::Refused(2);
     }
     match on_certificate(s, e, Event::MARK_INVALID, false) {

@@ -1,11 +1,11 @@
--- The premises of demand 3 can be met, and its two lists can take no kind more: each by computed examples. Assumes nothing.
+-- The premises of demand 3 can be met, its two lists can take no kind more, and the exception in 02's item 7 is met: each computed. Assumes nothing.
 use Prim.Native.Nat.{ℕ}
 use mathlib.Core.Bool.{Bool, true, false, not, _&&_, _||_}
 use mathlib.Core.List.{List, [], _∷_, _++_}
 use mathlib.Core.Path.{_≡_, refl}
 use lib.Dec.{eqb}
 use Rattle.octets.specs.Octets.{bytes}
-use Rattle.records.specs.Phone.{decode}
+use Rattle.records.specs.Phone.{decode, certificate-at}
 use Rattle.rules.specs.Words.{all}
 use Rattle.rules.specs.ImageRules.{accepted}
 use Rattle.rules.specs.Codes.{code}
@@ -14,7 +14,7 @@ use Rattle.rules.specs.Demands.{grants, withdrawing, giving}
 use Rattle.rules.specs.Computing.{computing}
 use Rattle.rules.specs.WorkedRun.{image}
 use Rattle.demands.specs.Runs.{Withdrawing-run, Giving-run, verified}
-use Rattle.keeping.specs.OneEvent.{event-of}
+use Rattle.keeping.specs.OneEvent.{event-of, phone-after}
 
 -- ---- runs of 01's image that change a grant; that it is accepted is `image-accepted` of crates/rules/specs/WorkedRun.antt
 
@@ -55,15 +55,15 @@ giving-grants = (refl, refl)
 
 -- ---- the kinds that stand in neither list
 
--- operator roots 10, valid on the phone, and 20, as given, on a card; third party roots 30, enabled, and 40, not; recovery record 50 beside root 10;
+-- operator roots 10 and 20, as given; third party roots 30, enabled, and 40, not; recovery record 50 beside root 10;
 -- cards 1 and 2 of operators 500 and 600; executables 1 to 4, signed by the keys of 10, 20, 30 and 40, of which 1 and 3 have their domains, and 5,
 -- signed by a key that nobody has; one action, for all domains but 0
-abbrev phone : ℕ → ℕ → List ℕ
-phone card root-20 =
+abbrev phone : ℕ → ℕ → ℕ → List ℕ
+phone card root-10 root-20 =
     bytes 12 0x0001_0005_0002_0005_0001_0002
     ++ bytes 2 card
     ++ bytes 26 0x0000_00000064_00000028_000000a0_000000b0_000000ec_000000f0
-    ++ bytes 24 0x000a_0000_00_01_01_01_000003e8_00000000_000001f4_000003e8
+    ++ bytes 24 root-10
     ++ bytes 24 root-20
     ++ bytes 24 0x001e_0000_00_03_01_01_00000bb8_00000000_00000000_000003e8
     ++ bytes 24 0x0028_0000_00_03_01_00_00000fa0_00000000_00000000_000003e8
@@ -77,13 +77,17 @@ phone card root-20 =
     ++ bytes 12 0x0005_00_00_000003ea_00000000
     ++ bytes 4 0x00_02_02_02
 
+-- root 10 of operator 500, valid on the phone
+abbrev phone-root-10 : ℕ
+phone-root-10 = 0x000a_0000_00_01_01_01_000003e8_00000000_000001f4_000003e8
+
 -- no card is present, and root 20 is valid on card 2
 abbrev card-away : List ℕ
-card-away = phone 0 0x0014_0002_00_01_01_01_000007d0_00000000_00000258_000003e8
+card-away = phone 0 phone-root-10 0x0014_0002_00_01_01_01_000007d0_00000000_00000258_000003e8
 
 -- card 1 is present, and root 20 is on it, not valid
 abbrev card-here : List ℕ
-card-here = phone 1 0x0014_0001_00_01_00_01_000007d0_00000000_000001f4_000003e8
+card-here = phone 1 phone-root-10 0x0014_0001_00_01_00_01_000007d0_00000000_000001f4_000003e8
 
 -- card 2 in; power up with card 2; a message that enables root 40 and no other; root 20 marked valid; root 10 replaced, with the key that signed
 -- executable 5
@@ -97,7 +101,7 @@ abbrev enable-40 : List ℕ
 enable-40 = bytes 24 0x09_04_0000_0000_02_01_0028_0000_00000000_00000000_00000000
 
 abbrev mark-20 : List ℕ
-mark-20 = bytes 24 0x07_02_0014_0000_00_00_00000000_00000000_00000000_00000000
+mark-20 = bytes 24 0x07_02_0014_0000_00_00_00000000_00000000_000001f4_00000000
 
 abbrev replace-10 : List ℕ
 replace-10 = bytes 24 0x10_02_000a_0032_00_00_000003ea_00001388_000001f4_000003e8
@@ -157,3 +161,26 @@ none-withdraws = refl
 pub none-gives : all loses losing ≡ true
 unfolding computing verified
 none-gives = refl
+
+-- ---- what 02's item 7 leaves to the card rule
+
+-- card 1 of operator 500 is present with root 10 on it, and root 20 of operator 600 is on the phone; both are marked valid, and root 20 is past its date
+abbrev of-two : List ℕ
+of-two =
+    phone 1 0x000a_0001_00_01_01_01_000003e8_00000000_000001f4_000003e8 0x0014_0000_00_01_01_01_000007d0_00000000_00000258_00000063
+
+-- operator 500 marks root 10 valid once more; it deletes root 20
+abbrev mark-10-again : List ℕ
+mark-10-again = bytes 24 0x07_02_000a_0000_00_00_00000000_00000000_000001f4_00000000
+
+abbrev delete-20 : List ℕ
+delete-20 = bytes 24 0x06_02_0014_0000_00_00_00000000_00000000_000001f4_00000000
+
+-- the mark past its date goes, whoever owns it, and the record stays its owner's
+pub old-mark-taken : (accepted of-two ≡ true)
+    × (code of-two mark-10-again ≡ 0)
+    × (certificate-at (decode of-two) 1 .mark ≡ 1)
+    × (certificate-at (phone-after of-two mark-10-again) 1 .mark ≡ 0)
+    × (code of-two delete-20 ≡ 4)
+unfolding computing
+old-mark-taken = (refl, refl, refl, refl, refl)

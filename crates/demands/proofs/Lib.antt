@@ -6,6 +6,7 @@ pub mod LowestRow
 pub mod TouchNoMore
 pub mod Recovering
 pub mod Dated
+pub mod Owned
 pub mod Examples
 pub mod Pinned
 pub mod Theorems

@@ -14,7 +14,7 @@ use Rattle.rules.specs.Chains.{present, in-date, valid-root, chain-of}
 use Rattle.rules.specs.ImageRules.{valid-in, third-party-root}
 use Rattle.rules.specs.Forms.{new-certificate}
 use Rattle.rules.specs.Codes.{certificate-named}
-use Rattle.rules.specs.Effects.{phone-operator-root, enabled-by, new-executable, replaced}
+use Rattle.rules.specs.Effects.{phone-operator-root, on-a-card, enabled-by, new-executable, replaced}
 use Rattle.rules.specs.Computing.{computing}
 use Rattle.rules.specs.WorkedRun.{image}
 use Rattle.rules.proofs.Tests.{tests, eq→eqb, and-i, or-i, or-j}
@@ -49,26 +49,28 @@ ten-is-valid = valid-operator (decode image) (certificate-named (decode image) 1
 ruleset shown = (or-i, or-j, and-i, eq→eqb)
 
 -- a field f of a certificate slot before (c) and after (d) an event, a line for each way
-abbrev certificate-shows : (Certificate → ℕ) → ℕ → Event → Certificate → Certificate → Bool
-certificate-shows f mode e c d =
+abbrev certificate-shows : (Certificate → ℕ) → Phone → Event → Certificate → Certificate → Bool
+certificate-shows f p e c d =
     eqb (f d) (f c)
-    || ((eqb (e .kind) 2 || eqb (e .kind) 4 || eqb (e .kind) 7) && phone-operator-root c && eqb (f d) (f (marked 0 c)))
+    || ((eqb (e .kind) 2 || eqb (e .kind) 4 || (eqb (e .kind) 7 && on-a-card (certificate-named p (e .id))))
+    && phone-operator-root c
+    && eqb (f d) (f (marked 0 c)))
     || (eqb (e .kind) 7 && eqb (c .id) (e .id) && eqb (f d) (f (marked 1 c)))
     || (eqb (e .kind) 8 && eqb (c .id) (e .id) && eqb (f d) (f (marked 0 c)))
     || (eqb (e .kind) 9 && third-party-root c && eqb (f d) (f (enabling (enabled-by e c) c)))
-    || (eqb (e .kind) 5 && eqb (c .id) 0 && eqb (f d) (f (new-certificate mode e)))
+    || (eqb (e .kind) 5 && eqb (c .id) 0 && eqb (f d) (f (new-certificate (p .mode) e)))
     || (eqb (e .kind) 6 && eqb (c .id) (e .id) && eqb (f d) (f no-certificate))
     || (eqb (e .kind) 16 && eqb (c .id) (e .id) && eqb (f d) (f (replaced e c)))
 
-certificate-shown : (f : Certificate → ℕ) (mode : ℕ) (e : Event) (c d : Certificate) → Certificate-kept mode e c d → T (certificate-shows f mode e c d)
-certificate-shown f mode e c d (Certificate-kept.same q) = let g = ap f q in search shown depth 13
-certificate-shown f mode e c d (Certificate-kept.swept k t q) = let g = ap f q in search shown depth 13
-certificate-shown f mode e c d (Certificate-kept.marked-valid k i q) = let g = ap f q in search shown depth 13
-certificate-shown f mode e c d (Certificate-kept.marked-invalid k i q) = let g = ap f q in search shown depth 13
-certificate-shown f mode e c d (Certificate-kept.enabled k t q) = let g = ap f q in search shown depth 13
-certificate-shown f mode e c d (Certificate-kept.filled k i q) = let g = ap f q in search shown depth 13
-certificate-shown f mode e c d (Certificate-kept.deleted k i q) = let g = ap f q in search shown depth 13
-certificate-shown f mode e c d (Certificate-kept.renewed k i q) = let g = ap f q in search shown depth 13
+certificate-shown : (f : Certificate → ℕ) (p : Phone) (e : Event) (c d : Certificate) → Certificate-kept p e c d → T (certificate-shows f p e c d)
+certificate-shown f p e c d (Certificate-kept.same q) = let g = ap f q in search shown depth 13
+certificate-shown f p e c d (Certificate-kept.swept k t q) = let g = ap f q in search shown depth 13
+certificate-shown f p e c d (Certificate-kept.marked-valid k i q) = let g = ap f q in search shown depth 13
+certificate-shown f p e c d (Certificate-kept.marked-invalid k i q) = let g = ap f q in search shown depth 13
+certificate-shown f p e c d (Certificate-kept.enabled k t q) = let g = ap f q in search shown depth 13
+certificate-shown f p e c d (Certificate-kept.filled k i q) = let g = ap f q in search shown depth 13
+certificate-shown f p e c d (Certificate-kept.deleted k i q) = let g = ap f q in search shown depth 13
+certificate-shown f p e c d (Certificate-kept.renewed k i q) = let g = ap f q in search shown depth 13
 
 -- the same of an executable slot (x, y)
 abbrev settling-shows : (Executable → ℕ) → Executable → Executable → Bool
@@ -134,6 +136,8 @@ certificate-changes =
     ∷ changes (event 6 10 0 0 0) (root 30 0 3 1) no-certificate (λ c. c .id)
     ∷ changes (event 7 10 0 0 0) (root 30 0 3 0) (root 30 0 3 1) (λ c. c .mark)
     ∷ changes (event 8 10 0 0 0) (root 30 0 3 1) (root 30 0 3 0) (λ c. c .mark)
+    -- 7: marking what is not on a card takes no mark from an operator root on the phone
+    ∷ changes (event 7 10 0 0 0) (root 11 0 1 1) (root 11 0 1 0) (λ c. c .mark)
     -- 9: a message changes no mark
     ∷ changes (event 9 0 0 0 0) (root 30 0 3 1) (root 30 0 3 0) (λ c. c .mark)
     -- 16: no other than the root named is marked valid, its recovery record neither
@@ -156,21 +160,25 @@ executable-changes =
     ∷ []
 
 pub every-kind : (map (λ r. r .event .kind) certificate-changes ++ map (λ r. r .event .kind) executable-changes)
-    ≡ (1 ∷ 2 ∷ 3 ∷ 4 ∷ 5 ∷ 6 ∷ 7 ∷ 8 ∷ 9 ∷ 16 ∷ 10 ∷ 11 ∷ 12 ∷ 13 ∷ 14 ∷ 15 ∷ [])
+    ≡ (1 ∷ 2 ∷ 3 ∷ 4 ∷ 5 ∷ 6 ∷ 7 ∷ 8 ∷ 7 ∷ 9 ∷ 16 ∷ 10 ∷ 11 ∷ 12 ∷ 13 ∷ 14 ∷ 15 ∷ [])
 every-kind = refl
-
--- the standing mode is 0
-pub certificate-forbidden : (r : Change Certificate) → List·Memᴰ r certificate-changes → Certificate-kept 0 (r .event) (r .before) (r .after) → ⊥
-unfolding computing
-certificate-forbidden r m k =
-    T-not (shows r) (all-out (λ r. not (shows r)) certificate-changes tt r m) (certificate-shown (r .field) 0 (r .event) (r .before) (r .after) k)
-  where
-    shows : Change Certificate → Bool
-    shows r = certificate-shows (r .field) 0 (r .event) (r .before) (r .after)
 
 -- there is no certificate
 abbrev no-trust : Trust
 no-trust = record { seen = record { clock = 0; card = 0 }; certificates = [] }
+
+-- and the standing mode is 0
+abbrev no-phone : Phone
+no-phone = record { mode = 0; trust = no-trust; cards = []; executables = []; table = [] }
+
+pub certificate-forbidden : (r : Change Certificate) → List·Memᴰ r certificate-changes → Certificate-kept no-phone (r .event) (r .before) (r .after) → ⊥
+unfolding computing
+certificate-forbidden r m k =
+    T-not (shows r) (all-out (λ r. not (shows r)) certificate-changes tt r m)
+    (certificate-shown (r .field) no-phone (r .event) (r .before) (r .after) k)
+  where
+    shows : Change Certificate → Bool
+    shows r = certificate-shows (r .field) no-phone (r .event) (r .before) (r .after)
 
 pub executable-forbidden : (r : Change Executable) → List·Memᴰ r executable-changes → Executable-kept no-trust (r .event) (r .before) (r .after) → ⊥
 unfolding computing

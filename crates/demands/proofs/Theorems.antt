@@ -1,8 +1,9 @@
--- THE THEOREMS. Each sentence of the three demands, and of 02's items 1, 4 and 5, with its statement; the files cited hold the arguments. Assumes nothing.
+-- THE THEOREMS. Each sentence of the three demands, and of 02's items 1, 4, 5 and 7, with its statement; the files cited hold the arguments. Assumes nothing.
 -- l is an image and v an event, both any bytes; vs is a run of events, refused ones among them.
 -- What the statements speak of: `step`, `run` (rules, specs/Step), `code`, `rows` (specs/Codes), `accepted` (specs/ImageRules),
--- `grants` (specs/Demands), `Chain-within`, `Shortest` (specs/Explicit), here specs/Runs and specs/MayTouch, and `event-of`, `key-named`, `phone-after`
--- (keeping, specs/OneEvent); of a fault: `fault`, `fault-offset` (rules, specs/Faults), `Lowest-at`, `Wrong-field` (specs/Named).
+-- `grants` (specs/Demands), `Chain-within`, `Shortest` (specs/Explicit), here specs/Runs, MayTouch, RecoveryKeys and Owners, and `event-of`,
+-- `key-named`, `phone-after` (keeping, specs/OneEvent); of a fault: `fault`, `fault-offset` (rules, specs/Faults), `Lowest-at`, `Wrong-field`
+-- (specs/Named).
 use Prim.Native.Nat.{ℕ, suc, _≤_, _<_}
 use mathlib.Core.Bool.{true, false}
 use mathlib.Core.List.{List, List·Memᴰ}
@@ -20,6 +21,7 @@ use Rattle.records.specs.declared.Event.{Event}
 use Rattle.records.proofs.RoundTrip.{decode-encode}
 use Rattle.rules.specs.declared.Site.{Site}
 use Rattle.rules.specs.Words.{at, all}
+use Rattle.rules.specs.Actors.{somebody}
 use Rattle.rules.specs.Chains.{valid-root, trusted-root, good, most-links}
 use Rattle.rules.specs.Explicit.{Chain, Chain-within, Shortest}
 use Rattle.rules.specs.ImageRules.{i2, i4, i5, row-fits, i7, i8, accepted, «open», cards-fit, present-known, places-known}
@@ -38,6 +40,7 @@ use Rattle.demands.specs.Runs.{Applies, Withdrawing-run, Giving-run, ver
 use Rattle.keeping.specs.OneEvent.{event-of, key-named, phone-after}
 use Rattle.demands.specs.MayTouch.{Framed-change}
 use Rattle.demands.specs.RecoveryKeys.{Recovery-fits, Replaces}
+use Rattle.demands.specs.Owners.{Owner-kept, As-owner, As-owners}
 use Rattle.demands.proofs.LowestRow.{first-applies, first-lowest}
 use Rattle.keeping.proofs.Bytes
 use Rattle.keeping.proofs.EventAnswers
@@ -47,6 +50,7 @@ use Rattle.demands.proofs.Grant.{granted-exact}
 use Rattle.demands.proofs.Demand3
 use Rattle.demands.proofs.Recovering
 use Rattle.demands.proofs.Dated
+use Rattle.demands.proofs.Owned
 
 -- ==== Demand 1: any image and any event gets one answer from the table
 
@@ -339,3 +343,21 @@ valid-means clock c = Dated.valid-means clock c
 -- "Marks are not touched when a date passes.": a clock event leaves every certificate as it is
 pub clock-keeps-certificates : (l v : List ℕ) → code l v ≡ 0 → event-of v .kind ≡ 1 → phone-after l v .trust .certificates ≡ decode l .trust .certificates
 clock-keeps-certificates l v h k = rw (event-phone l v h) (Dated.clock-keeps (decode l) (event-of v) k)
+
+-- ==== 02, item 7: an operator is somebody in particular
+
+-- "For events 6 to 8 by an operator or a manufacturer, the owner field .. names who acts, and it must equal the certificate's owner"
+pub acts-as-owner : (l v : List ℕ) → As-owner l v
+acts-as-owner l v h s = Owned.acts-as-owner (decode l) (event-of v) (eq→eqb _ 0 (Bytes.code-whole-out l v h .code)) s
+
+-- and so is every mark or deletion by one of them in any run, from any image
+pub acts-as-owner-run : (l : List ℕ) (vs : List (List ℕ)) → As-owners l vs
+acts-as-owner-run = Owned.in-a-run acts-as-owner
+
+-- "the second deleted the first one's keys": now a certificate of another owner is kept, but for the mark of a root past its date (`old-mark-taken`,
+-- in Examples)
+pub touches-its-own : (l v : List ℕ) → code l v ≡ 0 → T (somebody (event-of v)) → (i : ℕ)
+    → Owner-kept (decode l .trust .seen .clock) (event-of v) (certificate-at (decode l) i) (certificate-at (phone-after l v) i)
+touches-its-own l v h s i =
+    let w = Bytes.code-whole-out l v h in
+    rw (event-phone l v h) (Owned.touches-its-own (decode l) (event-of v) (accepted-out l (w .image) .1 .trust) (eq→eqb _ 0 (w .code)) s i)

@@ -31,11 +31,11 @@ record Touched (e : Event) (p q : Phone) : Type 0 where
   clock : e .kind ≢ 1 → q .trust .seen .clock ≡ p .trust .seen .clock
   card : T (not (between 2 4 (e .kind))) → q .trust .seen .card ≡ p .trust .seen .card
   mode : e .kind ≢ 9 → q .mode ≡ p .mode
-  certificates : (i : ℕ) → Certificate-kept (p .mode) e (certificate-at p i) (certificate-at q i)
+  certificates : (i : ℕ) → Certificate-kept p e (certificate-at p i) (certificate-at q i)
   executables : (i : ℕ) → Executable-kept (p .trust) e (executable-at p i) (executable-at q i)
 
 -- one certificate, and one executable, that no kind touches
-kept : {m : ℕ} {e : Event} (c : Certificate) → Certificate-kept m e c c
+kept : {p : Phone} {e : Event} (c : Certificate) → Certificate-kept p e c c
 kept c = Certificate-kept.same refl
 
 stays : {t : Trust} {e : Event} (x : Executable) → Executable-kept t e x x
@@ -43,7 +43,7 @@ stays x = Executable-kept.same (inl refl)
 
 -- certificates alone, and executables alone
 of-certificates : (e : Event) (p : Phone) (l : List Certificate)
-    → ((i : ℕ) → Certificate-kept (p .mode) e (certificate-at p i) (getD l i no-certificate)) → Touched e p (with-certificates l p)
+    → ((i : ℕ) → Certificate-kept p e (certificate-at p i) (getD l i no-certificate)) → Touched e p (with-certificates l p)
 of-certificates e p l h =
     record { clock = λ n. refl; card = λ n. refl; mode = λ n. refl; certificates = h; executables = λ i. stays (executable-at p i) }
 
@@ -54,9 +54,9 @@ of-executables e p l h =
 
 -- certificates changed where a test holds; the executable of a number changed
 certificates-at : (e : Event) (p : Phone) (t : Certificate → Bool) (f : Certificate → Certificate)
-    → ((c : Certificate) → T (t c) → Certificate-kept (p .mode) e c (f c))
-    → (i : ℕ) → Certificate-kept (p .mode) e (certificate-at p i) (getD (change t f (p .trust .certificates)) i no-certificate)
-certificates-at e p t f h = change-at (Certificate-kept (p .mode) e) t f no-certificate (p .trust .certificates) kept h
+    → ((c : Certificate) → T (t c) → Certificate-kept p e c (f c))
+    → (i : ℕ) → Certificate-kept p e (certificate-at p i) (getD (change t f (p .trust .certificates)) i no-certificate)
+certificates-at e p t f h = change-at (Certificate-kept p e) t f no-certificate (p .trust .certificates) kept h
 
 executable-named-at : (e : Event) (p : Phone) (f : Executable → Executable) → ((x : Executable) → x .id ≡ e .id → Executable-kept (p .trust) e x (f x))
     → Touched e p (with-executables (change (is-executable (e .id)) f (p .executables)) p)
@@ -66,7 +66,7 @@ executable-named-at e p f h =
 
 -- another card, by an event that may change it
 of-card : (e : Event) (p : Phone) (n : ℕ) (l : List Certificate) → T (between 2 4 (e .kind))
-    → ((i : ℕ) → Certificate-kept (p .mode) e (certificate-at p i) (getD l i no-certificate))
+    → ((i : ℕ) → Certificate-kept p e (certificate-at p i) (getD l i no-certificate))
     → Touched e p (with-certificates l (with-card n p))
 of-card e p n l k h =
     record {
@@ -79,7 +79,7 @@ of-card e p n l k h =
 
 -- the card rule, by an event that may take the marks of operator roots
 of-card-in : (e : Event) (p : Phone) → T (between 2 4 (e .kind))
-    → ((c : Certificate) → T (phone-operator-root c) → Certificate-kept (p .mode) e c (marked 0 c)) → Touched e p (card-in e p)
+    → ((c : Certificate) → T (phone-operator-root c) → Certificate-kept p e c (marked 0 c)) → Touched e p (card-in e p)
 unfolding card-in card-rule retired
 of-card-in e p k h =
     of-card e p (e .second) _ k (certificates-at e p (retired (with-card (e .second) p)) (marked 0) (λ c t. h c (search tests)))
@@ -96,18 +96,18 @@ of-mark-valid : (e : Event) (p : Phone) → Touched (with-kind 7 e) p (mark-vali
 unfolding mark-valid after-marking
 of-mark-valid e p =
     of-certificates (with-kind 7 e) p _
-    (map-at (Certificate-kept (p .mode) (with-kind 7 e)) (after-marking (e .id) r) no-certificate (p .trust .certificates) (kept _)
+    (map-at (Certificate-kept p (with-kind 7 e)) (after-marking (e .id) r) no-certificate (p .trust .certificates) (kept _)
     (λ c. go c (has-id (e .id) c) (λ t. t)))
   where
     r : Certificate
     r = certificate-named p (e .id)
 
     go : (c : Certificate) (b : Bool) → (T b → T (has-id (e .id) c))
-        → Certificate-kept (p .mode) (with-kind 7 e) c (cond b (marked 1 c) (at (λ c. on-a-card r && phone-operator-root c) (marked 0) c))
+        → Certificate-kept p (with-kind 7 e) c (cond b (marked 1 c) (at (λ c. on-a-card r && phone-operator-root c) (marked 0) c))
     go c true h = Certificate-kept.marked-valid refl (eqb→eq (c .id) (e .id) (h tt)) refl
     go c false h =
-        at-cases (λ lo hi. Certificate-kept (p .mode) (with-kind 7 e) hi lo) (λ c. on-a-card r && phone-operator-root c) (marked 0) c
-        (λ t. Certificate-kept.swept tt (search tests) refl) (λ t. kept _)
+        at-cases (λ lo hi. Certificate-kept p (with-kind 7 e) hi lo) (λ c. on-a-card r && phone-operator-root c) (marked 0) c
+        (λ t. Certificate-kept.swept (search tests) (search tests) refl) (λ t. kept _)
 
 touched : (e : Event) (p : Phone) → T (eqb (code-of p e) 0) → Touched e p (effect e p)
 unfolding the-effects
@@ -120,7 +120,7 @@ touched e p h =
       power-up = of-power-up e p;
       install-certificate =
           of-certificates (with-kind 5 e) p _
-          (fill-at (Certificate-kept (p .mode) (with-kind 5 e)) free-certificate _ no-certificate certificates kept
+          (fill-at (Certificate-kept p (with-kind 5 e)) free-certificate _ no-certificate certificates kept
           (λ c t. Certificate-kept.filled refl (eqb→eq (c .id) 0 t) refl));
       delete-certificate =
           of-certificates (with-kind 6 e) p _

@@ -1,3 +1,4 @@
 pub mod Runs
 pub mod MayTouch
 pub mod RecoveryKeys
+pub mod Owners

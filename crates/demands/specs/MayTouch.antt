@@ -1,6 +1,6 @@
 -- What each kind of event may touch, said once for each: everything else is kept. Definitions only.
 use Prim.Native.Nat.{ℕ}
-use mathlib.Core.Bool.{not, _||_}
+use mathlib.Core.Bool.{not, _&&_, _||_}
 use mathlib.Core.Logic.{_≢_, _⊎_}
 use mathlib.Core.Path.{_≡_}
 use lib.Dec.{T, eqb}
@@ -14,24 +14,26 @@ use Rattle.rules.specs.Words.{between}
 use Rattle.rules.specs.Chains.{chain-of}
 use Rattle.rules.specs.ImageRules.{third-party-root}
 use Rattle.rules.specs.Forms.{new-certificate}
-use Rattle.rules.specs.Effects.{phone-operator-root, enabled-by, new-executable, replaced}
+use Rattle.rules.specs.Codes.{certificate-named}
+use Rattle.rules.specs.Effects.{phone-operator-root, on-a-card, enabled-by, new-executable, replaced}
 
--- a certificate slot before (c) and after (d) an event on a phone with this standing mode: kept, or changed as the kind changes it
-pub data Certificate-kept (mode : ℕ) (e : Event) (c d : Certificate) : Type 0 where
-  same : d ≡ c → Certificate-kept mode e c d
-  -- 2, 4, 7: an operator root on the phone is marked invalid
-  swept : T (eqb (e .kind) 2 || eqb (e .kind) 4 || eqb (e .kind) 7) → T (phone-operator-root c) → d ≡ marked 0 c → Certificate-kept mode e c d
+-- a certificate slot before (c) and after (d) an event on this phone: kept, or changed as the kind changes it
+pub data Certificate-kept (p : Phone) (e : Event) (c d : Certificate) : Type 0 where
+  same : d ≡ c → Certificate-kept p e c d
+  -- 2, 4, and 7 of a root on a card: an operator root on the phone is marked invalid
+  swept : T (eqb (e .kind) 2 || eqb (e .kind) 4 || (eqb (e .kind) 7 && on-a-card (certificate-named p (e .id)))) → T (phone-operator-root c)
+      → d ≡ marked 0 c → Certificate-kept p e c d
   -- 7, 8: the one named is marked
-  marked-valid : e .kind ≡ 7 → c .id ≡ e .id → d ≡ marked 1 c → Certificate-kept mode e c d
-  marked-invalid : e .kind ≡ 8 → c .id ≡ e .id → d ≡ marked 0 c → Certificate-kept mode e c d
+  marked-valid : e .kind ≡ 7 → c .id ≡ e .id → d ≡ marked 1 c → Certificate-kept p e c d
+  marked-invalid : e .kind ≡ 8 → c .id ≡ e .id → d ≡ marked 0 c → Certificate-kept p e c d
   -- 9: a third party root is enabled or disabled, as the message says
-  enabled : e .kind ≡ 9 → T (third-party-root c) → d ≡ enabling (enabled-by e c) c → Certificate-kept mode e c d
+  enabled : e .kind ≡ 9 → T (third-party-root c) → d ≡ enabling (enabled-by e c) c → Certificate-kept p e c d
   -- 5: a free slot is filled
-  filled : e .kind ≡ 5 → c .id ≡ 0 → d ≡ new-certificate mode e → Certificate-kept mode e c d
+  filled : e .kind ≡ 5 → c .id ≡ 0 → d ≡ new-certificate (p .mode) e → Certificate-kept p e c d
   -- 6: the one named is deleted
-  deleted : e .kind ≡ 6 → c .id ≡ e .id → d ≡ no-certificate → Certificate-kept mode e c d
+  deleted : e .kind ≡ 6 → c .id ≡ e .id → d ≡ no-certificate → Certificate-kept p e c d
   -- 16: the one named has the new key, owner and expiry, and is marked valid
-  renewed : e .kind ≡ 16 → c .id ≡ e .id → d ≡ replaced e c → Certificate-kept mode e c d
+  renewed : e .kind ≡ 16 → c .id ≡ e .id → d ≡ replaced e c → Certificate-kept p e c d
 
 -- the settling leaves an executable as it is or takes its domain
 abbrev pub Up-to-settling : Executable → Executable → Type 0
@@ -58,6 +60,6 @@ pub record Framed-change (e : Event) (p q : Phone) : Type 0 where
   pub card : T (not (between 2 4 (e .kind))) → q .trust .seen .card ≡ p .trust .seen .card
   pub mode : e .kind ≢ 9 → q .mode ≡ p .mode
   pub certificate-slots : length (q .trust .certificates) ≡ length (p .trust .certificates)
-  pub certificates : (i : ℕ) → Certificate-kept (p .mode) e (certificate-at p i) (certificate-at q i)
+  pub certificates : (i : ℕ) → Certificate-kept p e (certificate-at p i) (certificate-at q i)
   pub executable-slots : length (q .executables) ≡ length (p .executables)
   pub executables : (i : ℕ) → Executable-kept (p .trust) e (executable-at p i) (executable-at q i)

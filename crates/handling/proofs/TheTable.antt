@@ -8,7 +8,7 @@ use lib.Dec.{leb}
 use Rattle.records.specs.declared.Event.{Event}
 use Rattle.rules.specs.Words.{first}
 use Rattle.rules.specs.Actors.{acts-for}
-use Rattle.rules.specs.Forms.{new-certificate, clock-form, card-form, card-in-form, card-out-form, install-form, id-form, message-form}
+use Rattle.rules.specs.Forms.{new-certificate, clock-form, card-form, card-in-form, card-out-form, install-form, owned-form, id-form, message-form}
 use Rattle.rules.specs.Forms.{executable-form, action-form, replace-form, malformed}
 use Rattle.rules.specs.Codes.{code-of, subject, recovery-named}
 use Rattle.rules.specs.Codes.{id-unknown, actor-barred, time-back, card-unknown, card-wrong, card-away, id-taken, key-elsewhere}
@@ -20,7 +20,7 @@ unfoldable pub the-table : Unit {0}
 unfolding first code-of malformed subject recovery-named acts-for id-unknown actor-barred time-back card-unknown card-wrong card-away id-taken key-elsewhere
     install-of-other mark-of-other no-such-root another-valid no-free-slot table-byte never not-permitted may-replace cannot-replace
     out-of-date
-    clock-form card-form card-in-form card-out-form install-form id-form message-form executable-form action-form replace-form new-certificate
+    clock-form card-form card-in-form card-out-form install-form owned-form id-form message-form executable-form action-form replace-form new-certificate
 the-table = tt
 
 pub small-actor : (e : Event) → e .actor < 5 → leb (e .actor) 4 ≡ true

@@ -1,13 +1,13 @@
 -- What is decided of an event before anything is written: its code, or the slot that it is about. Definitions only.
 use Prim.Native.Nat.{ℕ}
-use mathlib.Core.Bool.{Bool, cond, not, _||_}
+use mathlib.Core.Bool.{Bool, cond, not, _&&_, _||_}
 use mathlib.Core.List.{List, [], _∷_}
 use lib.Dec.{eqb}
 use Rattle.records.specs.Phone.{Phone}
 use Rattle.records.specs.declared.Event.{Event}
 use Rattle.rules.specs.Words.{Check, _⇒_, first-place}
 use Rattle.rules.specs.Chains.{present}
-use Rattle.rules.specs.Actors.{may-act}
+use Rattle.rules.specs.Actors.{may-act, acts-for}
 use Rattle.rules.specs.Forms.{with-kind}
 use Rattle.rules.specs.Codes.{has-id, is-executable, certificate-named, certificate-known, executable-known, code-of}
 use Rattle.handling.specs.declared.Plan.{Plan}
@@ -38,7 +38,7 @@ for-executable k p e = plan (code-of p (with-kind k e)) (first-place (is-executa
 abbrev pub certificate-rows : ℕ → Bool → Phone → Event → List Check
 certificate-rows k nobody p e =
     (not (certificate-known p (e .id)) ⇒ 3)
-    ∷ (not (may-act k (certificate-named p (e .id) .domain) (e .actor)) || nobody ⇒ 4)
+    ∷ (not (may-act k (certificate-named p (e .id) .domain) (e .actor) && acts-for (with-kind k e) (certificate-named p (e .id))) || nobody ⇒ 4)
     ∷ (not (present (p .trust .seen) (certificate-named p (e .id))) ⇒ 8)
     ∷ []
 

@@ -23,7 +23,7 @@ use Rattle.rules.proofs.Fits.{occupied-out}
 use Rattle.rules.proofs.Roots.{valid-earlier, valid-kind, valid-domain, valid-mark}
 use Rattle.rules.proofs.Accepted.{Valid, Kept}
 use Rattle.keeping.proofs.ByKind.{the-effects, by-kind}
-use Rattle.keeping.proofs.Unrefused.{Unrefused, id-formed, replace-formed, replaceable}
+use Rattle.keeping.proofs.Unrefused.{Unrefused, owned-formed, replace-formed, replaceable}
 use Rattle.keeping.proofs.Naming.{Found, certificate-named-is, certificate-named-alone}
 use Rattle.keeping.proofs.CertificateChanges.{New, holding, keep-clock, keep-card-in, keep-card-out}
 use Rattle.keeping.proofs.CertificateChanges.{keep-install, keep-delete, keep-invalid, keep-message}
@@ -184,9 +184,9 @@ module _ (p : Phone) (ok : Kept (p .cards) (p .trust)) where
         card-out = λ t. kept-card-out (with-kind 3 e);
         power-up = λ t. kept-power-up (with-kind 4 e) (not-elim (known-place (p .cards) (e .second)) (t .in-table));
         install-certificate = λ t. kept-install e t;
-        delete-certificate = λ t. kept-delete (with-kind 6 e) (id-formed p (with-kind 6 e) (t .formed));
-        mark-valid = λ t. kept-valid e (id-formed p (with-kind 7 e) (t .formed)) t;
-        mark-invalid = λ t. kept-invalid e (id-formed p (with-kind 8 e) (t .formed)) t;
+        delete-certificate = λ t. kept-delete (with-kind 6 e) (owned-formed p (with-kind 6 e) (t .formed));
+        mark-valid = λ t. kept-valid e (owned-formed p (with-kind 7 e) (t .formed)) t;
+        mark-invalid = λ t. kept-invalid e (owned-formed p (with-kind 8 e) (t .formed)) t;
         message = λ t. kept-message (with-kind 9 e);
         install-executable = λ t. ok;
         delete-executable = λ t. ok;

@@ -8,7 +8,7 @@ use lib.ListN.{getD, length}
 use Rattle.records.specs.Phone.{Phone}
 use Rattle.records.specs.declared.Certificate.{Certificate}
 use Rattle.records.specs.declared.Event.{Event}
-use Rattle.rules.specs.Forms.{forms, no-form, malformed, id-form, action-form, replace-form}
+use Rattle.rules.specs.Forms.{forms, no-form, malformed, owned-form, id-form, action-form, replace-form}
 use Rattle.rules.specs.Codes.{refusals, code-of}
 use Rattle.rules.specs.Codes.{id-unknown, actor-barred, time-back, card-unknown, card-wrong, card-away, id-taken, key-elsewhere}
 use Rattle.rules.specs.Codes.{install-of-other, mark-of-other, no-such-root, another-valid, no-free-slot, never, not-permitted}
@@ -67,6 +67,10 @@ unrefused p e h =
     }
 
 -- "Where a kind names an id, 0 is out of range."
+pub owned-formed : (p : Phone) (e : Event) → T (owned-form p e) → e .id ≢ 0
+unfolding owned-form
+owned-formed p e h = search tests
+
 pub id-formed : (p : Phone) (e : Event) → T (id-form p e) → e .id ≢ 0
 unfolding id-form
 id-formed p e h = search tests

@@ -1,11 +1,10 @@
 -- What is known of an accepted image. Assumes nothing.
-use Prim.Native.Nat.{ℕ, zero, suc, _≤_}
+use Prim.Native.Nat.{ℕ, _≤_}
 use mathlib.Core.Bool.{true}
-use mathlib.Core.List.{List, [], _∷_, List·Memᴰ, List·Memᴰ·head, List·Memᴰ·tail}
+use mathlib.Core.List.{List}
 use mathlib.Core.Logic.{_≢_, _⊎_, inl, inr}
-use mathlib.Core.Path.{_≡_, refl, ap}
+use mathlib.Core.Path.{_≡_, ap}
 use native.Mathlib.Omega.{arith}
-use lib.ListN.{getD}
 use Rattle.records.specs.Phone.{decode, no-certificate, no-executable}
 use Rattle.records.specs.declared.Certificate.{Certificate}
 use Rattle.records.specs.Frame.{Framed}
@@ -14,16 +13,11 @@ use Rattle.records.specs.declared.Executable.{Executable}
 use Rattle.rules.proofs.Accepted.{Occupied, Stored}
 use Rattle.rules.proofs.Accepts.{accepted-out}
 use Rattle.rules.specs.AcceptedImage.{Accepted-image}
+use Rattle.rules.proofs.Slots.{at-each}
 
 pub executable-domain : {n : ℕ} (x : Executable) → (x ≡ no-executable) ⊎ Stored n x → x .domain ≤ 3
 executable-domain x (inl z) = let e : x .domain ≡ 0 = ap (λ y. y .domain) z in omega arith
 executable-domain x (inr o) = o .domain
-
--- what holds of every element and of what stands past the end holds at every place
-at-each : {A : Type 0} (P : A → Type 0) (d : A) (l : List A) → P d → ((x : A) → List·Memᴰ x l → P x) → (i : ℕ) → P (getD l i d)
-at-each P d [] z h i = z
-at-each P d (x ∷ l) z h zero = h x (List·Memᴰ·head refl)
-at-each P d (x ∷ l) z h (suc i) = at-each P d l z (λ y m. h y (List·Memᴰ·tail m)) i
 
 -- a free slot has key 0 and domain 0
 key-domain : (c : Certificate) → (c ≡ no-certificate) ⊎ Occupied c → c .key ≢ 0 → (1 ≤ c .domain) × (c .domain ≤ 3)

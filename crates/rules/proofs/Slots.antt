@@ -18,6 +18,12 @@ module _ {A : Type 0} where
   mem-at (x ∷ l) zero d h = List·Memᴰ·head refl
   mem-at (x ∷ l) (suc k) d h = List·Memᴰ·tail (mem-at l k d (le-of-suc-le-suc h))
 
+  -- what holds of every element and of what stands past the end holds at every place
+  pub at-each : (P : A → Type 0) (d : A) (l : List A) → P d → ((x : A) → List·Memᴰ x l → P x) → (i : ℕ) → P (getD l i d)
+  at-each P d [] z h i = z
+  at-each P d (x ∷ l) z h zero = h x (List·Memᴰ·head refl)
+  at-each P d (x ∷ l) z h (suc i) = at-each P d l z (λ y m. h y (List·Memᴰ·tail m)) i
+
   -- a test that one slot alone passes: to change every slot that passes is to change that one
   pub set-miss : (t : A → Bool) (f : A → A) (l : List A) → ((x : A) → List·Memᴰ x l → T (not (t x))) → map (at t f) l ≡ l
   set-miss t f [] h = refl

@@ -1,6 +1,6 @@
 -- 01, "Who may act is one fixed table over event kind and domain". Definitions only.
 use Prim.Native.Nat.{ℕ}
-use mathlib.Core.Bool.{Bool, true, false, _&&_, _||_}
+use mathlib.Core.Bool.{Bool, false, not, _&&_, _||_}
 use lib.Dec.{eqb}
 use Rattle.records.specs.declared.Certificate.{Certificate}
 use Rattle.records.specs.declared.Event.{Event}
@@ -22,6 +22,10 @@ may-act k d a =
     || (between 7 8 k && by-domain d a (eqb a 4))
     || (eqb k 16 && by-domain d a false)
 
--- an actor that is somebody in particular: nobody is yet
+-- 02, item 7: "For events 6 to 8 by an operator or a manufacturer, the owner field .. names who acts"
+abbrev pub somebody : Event → Bool
+somebody e = between 6 8 (e .kind) && between 2 3 (e .actor)
+
+-- "and it must equal the certificate's owner"
 unfoldable pub acts-for : Event → Certificate → Bool
-acts-for e c = true
+acts-for e c = not (somebody e) || eqb (e .owner) (c .owner)

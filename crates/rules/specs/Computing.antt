@@ -11,7 +11,7 @@ use Rattle.rules.specs.ImageRules.{one-in-place, not-both, owned-by-card
 use Rattle.rules.specs.ImageRules.{i3, i4, i5, i6, i7, i8, broken, accepted, «open»}
 use Rattle.rules.specs.Faults.{first-number, lowest, i3-site, fault}
 use Rattle.rules.specs.Actors.{may-act, acts-for}
-use Rattle.rules.specs.Forms.{new-certificate, clock-form, card-form, card-in-form, card-out-form, install-form, id-form, message-form}
+use Rattle.rules.specs.Forms.{new-certificate, clock-form, card-form, card-in-form, card-out-form, install-form, owned-form, id-form, message-form}
 use Rattle.rules.specs.Forms.{executable-form, action-form, replace-form, no-form, malformed}
 use Rattle.rules.specs.Codes.{certificate-named, executable-named, certificate-known, executable-known, subject, recovery-named, id-unknown, actor-barred}
 use Rattle.rules.specs.Codes.{time-back, card-unknown, card-wrong, card-away, id-taken, key-elsewhere, install-of-other, mark-of-other}
@@ -29,7 +29,7 @@ unfolding be digit put-digit decode encode header-of framed header-fits first-wr
     in-card-table known-place operator-of valid-in has-valid-operator zero-certificate certificate-ranges root-fits issued-fits recovery-fits
     certificate-fits key-of-one-domain card-owns one-in-place not-both owned-by-card one-manufacturer row-fits zero-executable
     executable-fits i2 i3 i4 i5 i6 i7 i8 broken accepted «open» cards-fit first-number lowest i3-site fault may-act acts-for new-certificate
-    clock-form card-form card-in-form card-out-form install-form id-form message-form executable-form action-form replace-form no-form malformed
+    clock-form card-form card-in-form card-out-form install-form owned-form id-form message-form executable-form action-form replace-form no-form malformed
     certificate-named executable-named certificate-known executable-known subject recovery-named id-unknown actor-barred time-back card-unknown card-wrong
     card-away id-taken key-elsewhere install-of-other mark-of-other no-such-root rival another-valid no-free-slot table-byte never
     not-permitted may-replace cannot-replace out-of-date code-of code retired card-rule tick card-in card-out power-up install-certificate delete-certificate

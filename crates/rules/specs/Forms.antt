@@ -7,7 +7,7 @@ use lib.ListN.{length, getD, take, drop}
 use Rattle.records.specs.Phone.{Phone}
 use Rattle.records.specs.declared.Certificate.{Certificate}
 use Rattle.records.specs.declared.Event.{Event}
-use Rattle.rules.specs.Words.{all, all-zero}
+use Rattle.rules.specs.Words.{between, all, all-zero}
 use Rattle.rules.specs.ImageRules.{certificate-fits}
 
 -- kind 5: "id, second = place, third = kind, fourth = domain, all four u32"; "A third party root gets mark 1, enabled 1 exactly if the standing mode
@@ -78,7 +78,14 @@ card-out-form p e = eqb (e .second) 0 && card-form p e
 unfoldable pub install-form : Phone → Event → Bool
 install-form p e = certificate-fits (new-certificate (p .mode) e)
 
--- 6, 7, 8, 11, 12: "id"
+-- 6, 7, 8: "id"; of an operator or a manufacturer "the owner field .. names who acts"; "Every other actor leaves the field 0"
+unfoldable pub owned-form : Phone → Event → Bool
+owned-form p e =
+    not (eqb (e .id) 0)
+    && all-zero (e .second ∷ e .third ∷ e .fourth ∷ e .key ∷ e .verifying ∷ e .expiry ∷ [])
+    && (between 2 3 (e .actor) || eqb (e .owner) 0)
+
+-- 11, 12: "id"
 unfoldable pub id-form : Phone → Event → Bool
 id-form p e =
     not (eqb (e .id) 0) && all-zero (e .second ∷ e .third ∷ e .fourth ∷ e .key ∷ e .verifying ∷ e .owner ∷ e .expiry ∷ [])
@@ -123,9 +130,9 @@ forms =
     ∷ card-out-form
     ∷ card-form
     ∷ install-form
-    ∷ id-form
-    ∷ id-form
-    ∷ id-form
+    ∷ owned-form
+    ∷ owned-form
+    ∷ owned-form
     ∷ message-form
     ∷ executable-form
     ∷ id-form

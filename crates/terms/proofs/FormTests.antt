@@ -10,10 +10,11 @@ use lib.ListN.{length}
 use Rattle.records.specs.Phone.{Phone}
 use Rattle.records.specs.declared.Certificate.{Certificate}
 use Rattle.records.specs.declared.Event.{Event}
-use Rattle.rules.specs.Words.{all, all-zero}
+use Rattle.rules.specs.Words.{between, all, all-zero}
 use Rattle.rules.specs.ImageRules.{certificate-fits}
-use Rattle.rules.specs.Forms.{new-certificate, listed, unlisted, clock-form, card-form, id-form, message-form, executable-form, action-form, replace-form}
-use Rattle.terms.specs.Seldom.{seldom}
+use Rattle.rules.specs.Forms.{new-certificate, listed, unlisted, clock-form, card-form, id-form, message-form}
+use Rattle.rules.specs.Forms.{executable-form, action-form, owned-form, replace-form}
+use Rattle.terms.specs.Seldom.{rarely, seldom}
 use Rattle.rules.proofs.Tests.{and-l, and-r, by-test}
 use Rattle.rules.proofs.Fits.{occupied-out}
 
@@ -49,6 +50,13 @@ module _ (p : Phone) (e : Event) (s : ℕ) (q : s ≡ seldom e) where
   action-form-is a r =
       let z : e .key + s ≡ e .third + (e .fourth + (e .key + (e .verifying + (e .owner + (e .expiry + 0))))) = omega arith in
       ap₂ (λ m n. not (eqb (e .id) 0) && ltb (e .second) m && eqb n 0) r z
+
+pub owned-form-is : (p : Phone) (e : Event) (s : ℕ) (b : Bool) → s ≡ rarely e → b ≡ between 2 3 (e .actor)
+    → (not (eqb (e .id) 0) && eqb (e .second + e .key + s) 0 && (b || eqb (e .owner) 0)) ≡ owned-form p e
+unfolding owned-form all-zero
+owned-form-is p e s b r q =
+    let z : e .second + e .key + s ≡ e .second + (e .third + (e .fourth + (e .key + (e .verifying + (e .expiry + 0))))) = omega arith in
+    ap₂ (λ n d. not (eqb (e .id) 0) && eqb n 0 && (d || eqb (e .owner) 0)) z q
 
 pub replace-form-is : (p : Phone) (e : Event)
     → (not (eqb (e .id) 0) && not (eqb (e .second) 0) && not (eqb (e .key) 0) && eqb (e .third + e .fourth) 0) ≡ replace-form p e

@@ -1,4 +1,5 @@
 // The form of each kind of event, and what the fields of one say.
+use crate::actors;
 use records::Certificate;
 use records::Event;
 use records::Header;
@@ -7,15 +8,22 @@ ghost use lib.Dec.{eqb};
 ghost use lib.ListN.{getD, length};
 ghost use mathlib.Core.Bool.{cond, not};
 ghost use mathlib.Core.Path.{_≡_};
-ghost use Rattle.terms.specs.Seldom.{seldom};
+ghost use Rattle.terms.specs.Seldom.{rarely, seldom};
 ghost use Rattle.records.specs.Phone.{Phone};
 ghost use Rattle.rules.specs.Effects.{replaced};
 ghost use Rattle.rules.specs.Forms.{action-form, card-form, clock-form, eight, executable-form, id-form, listed, message-form, new-certificate};
-ghost use Rattle.rules.specs.Forms.{replace-form, unlisted};
+ghost use Rattle.rules.specs.Forms.{owned-form, replace-form, unlisted};
 ghost use Rattle.rules.specs.Words.{all, all-zero};
 
 // How many numbers a message can list.
 const MOST: usize = Event::MOST_LISTED as usize;
+
+// The fields that hardly any kind uses, as a sum: 0 where each is.
+fn rarely(e: Event) -> u64
+    ensures { λ r. ⌜ (r ≡ rarely e) × (r ≤ 12000000000) ⌝ }
+{
+    e.third as u64 + e.fourth as u64 + e.verifying as u64 + e.expiry as u64
+}
 
 // The fields that few kinds use, as a sum: 0 where each is.
 fn seldom(e: Event) -> u64
@@ -40,6 +48,15 @@ pub fn id_form(e: Event) -> bool
     ensures { λ r. ⌜ ((p : Phone) → r ≡ id-form p e) ⌝ }
 {
     (e.id != 0) & (e.second as u64 + e.key as u64 + seldom(e) == 0)
+}
+
+// Of an event on a certificate: an operator or a manufacturer says who it is, and nobody else.
+pub fn owned_form(e: Event) -> bool
+    ensures { λ r. ⌜ ((p : Phone) → r ≡ owned-form p e) ⌝ }
+{
+    (e.id != 0)
+        & (e.second as u64 + e.key as u64 + rarely(e) == 0)
+        & (actors::is_somebody(e.actor) | (e.owner == 0))
 }
 
 pub fn executable_form(e: Event) -> bool

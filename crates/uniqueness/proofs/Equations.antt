@@ -358,6 +358,12 @@ one-terms-replaced κs a r r′ e e′ = returned
 pub one-terms-may-replace : One-result Rattle.terms.proofs.may_replace.Reads.Learnt
 one-terms-may-replace κs a r r′ e e′ = returned
 
+pub one-terms-is-somebody : One-result Rattle.terms.proofs.actors.is_somebody.Reads.Learnt
+one-terms-is-somebody κs a r r′ e e′ = returned
+
+pub one-terms-acts-for : One-result Rattle.terms.proofs.actors.acts_for.Reads.Learnt
+one-terms-acts-for κs a r r′ e e′ = returned
+
 pub one-terms-may-act : One-result Rattle.terms.proofs.actors.may_act.Reads.Learnt
 one-terms-may-act κs a r r′ e e′ = returned
 

@@ -59,6 +59,9 @@ one-terms-card-form κs a r r′ e e′ x y = returned (x no-phone) (y no-phone)
 pub one-terms-id-form : One-result Rattle.terms.proofs.forms.id_form.Reads.Learnt
 one-terms-id-form κs a r r′ e e′ x y = returned (x no-phone) (y no-phone)
 
+pub one-terms-owned-form : One-result Rattle.terms.proofs.forms.owned_form.Reads.Learnt
+one-terms-owned-form κs a r r′ e e′ x y = returned (x no-phone) (y no-phone)
+
 pub one-terms-executable-form : One-result Rattle.terms.proofs.forms.executable_form.Reads.Learnt
 one-terms-executable-form κs a r r′ e e′ x y = returned (x no-phone) (y no-phone)
 

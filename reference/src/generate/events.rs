@@ -1,9 +1,9 @@
 //! Events chosen by looking at the state they meet, so that the deeper codes occur often.
 //!
-//! Follows 01, "Events" and "What an event is told", and 02, "Recovery keys" and "Roots have a date
-//! as well". For each event a kind and a code are aimed at; of several fitting events the first with
-//! that code is taken. The aim only steers what is tried: what the answer has to be is said by
-//! `events` alone.
+//! Follows 01, "Events" and "What an event is told", and 02, "Recovery keys", "Roots have a date as
+//! well" and "An operator is somebody in particular". For each event a kind and a code are aimed at;
+//! of several fitting events the first with that code is taken. The aim only steers what is tried:
+//! what the answer has to be is said by `events` alone.
 
 use super::images::{any_expiry, any_operator, expiry_in_date, key_at_distance};
 use super::replacements;
@@ -99,6 +99,7 @@ fn takes_outlived_marks(random: &mut Random, phone: &Phone) -> Event {
         _ => {}
     }
     event.actor = allowed_actor(random, phone, &event);
+    name_who_acts(phone, &mut event);
     event
 }
 
@@ -250,7 +251,29 @@ pub fn candidate(random: &mut Random, phone: &Phone, kind: u8) -> Event {
         _ => {}
     }
     event.actor = allowed_actor(random, phone, &event);
+    name_who_acts(phone, &mut event);
     event
+}
+
+/// The same event by another actor, who mostly says who it is where that is asked, and nothing where
+/// it is not.
+pub(super) fn by_actor(random: &mut Random, phone: &Phone, event: Event, actor: u8) -> Event {
+    let mut event = Event { actor, ..event };
+    if random.percent(80) {
+        name_who_acts(phone, &mut event);
+    }
+    event
+}
+
+/// Puts the owner of the certificate where an operator or a manufacturer has to, and 0 for others.
+fn name_who_acts(phone: &Phone, event: &mut Event) {
+    if deletes_or_marks(event.kind) {
+        let record = match event.names_who_acts() {
+            true => phone.certificate(event.id),
+            false => None,
+        };
+        event.owner = record.map_or(0, |c| c.owner);
+    }
 }
 
 /// The certificate's domain counts for kinds 5 to 8 and 16.
@@ -375,6 +398,7 @@ fn name_old_root(random: &mut Random, phone: &Phone, event: &mut Event) {
     if let Some(root) = random.choose(&records) {
         event.id = root.id;
         event.actor = allowed_actor(random, phone, event);
+        name_who_acts(phone, event);
     }
 }
 
@@ -618,8 +642,21 @@ fn spoil_range(random: &mut Random, phone: &Phone, event: &mut Event) {
         INSTALL_CERTIFICATE => spoil_certificate(random, event),
         CONFIGURATION => spoil_message(random, event),
         REPLACE => replacements::spoil_range(random, event),
+        DELETE_CERTIFICATE..=MARK_INVALID if random.percent(70) => {
+            name_owner_for_nobody(random, phone, event)
+        }
         _ => event.id = 0,
     }
+}
+
+/// Somebody who is nobody in particular names an owner, often the certificate's or his own.
+fn name_owner_for_nobody(random: &mut Random, phone: &Phone, event: &mut Event) {
+    if event.names_who_acts() || random.percent(20) {
+        event.actor = random.one_of([DEVICE, USER, ADMINISTRATOR, ADMINISTRATOR]);
+    }
+    let owner = phone.certificate(event.id).map_or(0, |c| c.owner);
+    let other = any_operator(random);
+    event.owner = random.one_of([owner, owner, other, 1, 1 << 31]).max(1);
 }
 
 fn spoil_certificate(random: &mut Random, event: &mut Event) {
@@ -712,6 +749,10 @@ fn spoil_id(random: &mut Random, phone: &Phone, event: &mut Event) {
         false => unknown_id(random, &own),
     };
     let strange = (strange_id(), strange_id());
+    // Whoever says who acts: there is no certificate that it could be held to.
+    if event.names_who_acts() && random.percent(60) {
+        event.owner = any_operator(random);
+    }
     (event.id, event.second) = match (event.kind, random.below(3)) {
         (REPLACE, 0) => (event.id, strange.1),
         (REPLACE, 1) => strange,
@@ -723,11 +764,34 @@ fn spoil_actor(random: &mut Random, phone: &Phone, event: &mut Event) {
     if event.kind == REPLACE && random.percent(50) {
         return replacements::name_third_party(random, phone, event);
     }
+    if event.names_who_acts() && random.percent(60) {
+        return spoil_owner(random, phone, event);
+    }
     let allowed = allowed_actors(event.kind, domain_that_counts(phone, event));
     let wrong: Vec<u8> = (DEVICE..=ADMINISTRATOR)
         .filter(|actor| !allowed.contains(actor))
         .collect();
-    event.actor = random.choose(&wrong).unwrap_or(DEVICE);
+    let actor = random.choose(&wrong).unwrap_or(DEVICE);
+    *event = by_actor(random, phone, *event, actor);
+}
+
+/// The right sort of actor, but not the certificate's owner: another one whom the phone knows, one
+/// who is a bit off, somebody who leaves the field 0.
+fn spoil_owner(random: &mut Random, phone: &Phone, event: &mut Event) {
+    let records = all_certificates(phone);
+    let own = event.owner;
+    let card = random.choose(&phone.cards).map_or(0, |card| card.operator);
+    let present = phone.present_card().map_or(card, |card| card.operator);
+    event.owner = match random.below(10) {
+        0 | 1 => 0,
+        2 => own ^ 1,
+        3 => own ^ 1 << random.below(32),
+        4 => card,
+        5 => present,
+        6 => any_operator(random),
+        7 => random.u32(),
+        _ => random.choose(&records).map_or(0, |c| c.owner),
+    };
 }
 
 /// An operator root to install on the present card, by an owner that may be another.

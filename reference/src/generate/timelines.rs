@@ -5,7 +5,7 @@
 //! steers: whether a timeline is in form, and what it has to print, is said by `timeline` alone.
 
 use super::damage::{broken_image, put_u16, put_u32};
-use super::events::{any_new_time, candidate, next_event, probes, Style};
+use super::events::{any_new_time, by_actor, candidate, next_event, probes, Style};
 use super::images::{accepted_phone, chain_phone, Shape};
 use super::ladders::ladder_phone;
 use super::Case;
@@ -482,11 +482,8 @@ fn every_kind(random: &mut Random, phone: &Phone) -> Vec<Record> {
         for actor in 0..=5 {
             let second = Pace::Mixed.next_second(random, &draft.phone);
             draft.go_to(random, second);
-            let event = Event {
-                kind,
-                actor,
-                ..candidate(random, &draft.phone, kind)
-            };
+            let event = candidate(random, &draft.phone, kind);
+            let event = by_actor(random, &draft.phone, event, actor);
             draft.put(event.encode());
         }
     }

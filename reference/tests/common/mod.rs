@@ -32,7 +32,7 @@ card-in by device card 2
 card-out by device
 verify by device executable 1
 mark-valid by user certificate 10
-mark-valid by operator certificate 10
+mark-valid by operator 500 certificate 10
 clock by device to 150
 ";
 

@@ -3,7 +3,7 @@ use Rattle.records.specs.Phone.{decode}
 use Rattle.rules.specs.Forms.{with-kind}
 use Rattle.rules.specs.Effects.{effect, mark-valid, on-a-card}
 use Rattle.rules.specs.Step.{done}
-use Rattle.keeping.proofs.Unrefused.{id-formed}
+use Rattle.keeping.proofs.Unrefused.{owned-formed}
 use Rattle.handling.proofs.Handles.{plan-handled, settle-framed, settle-known, said-still, handled-settled, accepted-phone}
 use Rattle.certificates.proofs.NamedCertificate.{About, about, about-named}
 use Rattle.certificates.proofs.MarksAndMessages.{mark-still}
@@ -19,7 +19,7 @@ abbrev on : tie.After-mark-valid2 → tie.After-slot
 on c = c .before .before .before .before .before .before
 
 about-it : (c : tie.After-slot) → About 7 (decode (start c .args .s .now)) (start c .args .e) (c .slot .given .0 .0)
-about-it c = about 7 _ (start c .args .e) tt (id-formed _ _) (c .before .before .mark-valid .ensures) (c .slot .given .1)
+about-it c = about 7 _ (start c .args .e) tt (owned-formed _ _) (c .before .before .mark-valid .ensures) (c .slot .given .1)
 
 certificate-requires : tie.Need-certificate-requires
 certificate-requires c κs =

@@ -28,8 +28,8 @@ onward : (d : tie.After-on-certificate) → let p = decode (start d .args .s .no
 onward d =
     record {
       told = mark-invalid-told _ _ (omega arith);
-      form = d .before .before .id-form .result;
-      answers = d .before .before .id-form .ensures _;
+      form = d .before .before .owned-form .result;
+      answers = d .before .before .owned-form .ensures _;
       right = d .before .if1 .left;
       rows = d .on-certificate .ensures;
     }
@@ -48,7 +48,7 @@ said c q =
     q ∙ ap (λ x. first (rest d x)) (row-named 8 false _ (start d .args .e) (d .on-certificate .ensures) (on c .slot .given .1) (c .certificate .ensures))
 
 returns : tie.Need-returns
-returns c = unformed _ _ _ _ (mark-invalid-told _ _ (omega arith)) (c .before .id-form .ensures _) (c .if1 .taken)
+returns c = unformed _ _ _ _ (mark-invalid-told _ _ (omega arith)) (c .before .owned-form .ensures _) (c .if1 .taken)
 
 certificate-requires : tie.Need-certificate-requires
 certificate-requires c κs =

@@ -27,8 +27,8 @@ onward : (d : tie.After-on-certificate) → let p = decode (start d .args .s .no
 onward d =
     record {
       told = mark-valid-told _ _ (omega arith);
-      form = d .before .before .id-form .result;
-      answers = d .before .before .id-form .ensures _;
+      form = d .before .before .owned-form .result;
+      answers = d .before .before .owned-form .ensures _;
       right = d .before .if1 .left;
       rows = d .on-certificate .ensures;
     }
@@ -45,7 +45,7 @@ said c q =
     q ∙ ap (λ x. first (rest d x)) (row-named 7 false _ (start d .args .e) (d .on-certificate .ensures) (c .slot .given .1) refl)
 
 returns : tie.Need-returns
-returns c = unformed _ _ _ _ (mark-valid-told _ _ (omega arith)) (c .before .id-form .ensures _) (c .if1 .taken)
+returns c = unformed _ _ _ _ (mark-valid-told _ _ (omega arith)) (c .before .owned-form .ensures _) (c .if1 .taken)
 
 judge-marking-requires : tie.Need-judge-marking-requires
 judge-marking-requires c κs =

@@ -1,12 +1,13 @@
 use Prim.Native.Nat.{ℕ}
-use mathlib.Core.Bool.{Bool, not, _||_}
-use mathlib.Core.Path.{_≡_, sym, ap, _∙_}
+use mathlib.Core.Bool.{Bool, not, _&&_, _||_}
+use mathlib.Core.Path.{_≡_, sym, ap, ap₂, _∙_}
 use native.Mathlib.Omega.{arith}
 use lib.ListN.{drop}
 use Rattle.records.specs.Phone.{decode}
 use Rattle.rules.specs.Words.{first}
 use Rattle.rules.specs.Chains.{present}
-use Rattle.rules.specs.Actors.{may-act}
+use Rattle.rules.specs.Actors.{may-act, acts-for}
+use Rattle.rules.specs.Forms.{with-kind}
 use Rattle.rules.specs.Codes.{has-id, certificate-named}
 use Rattle.lookup.proofs.FoundSlot.{at-first, at-within}
 use Rattle.handling.specs.Plans.{certificate-rows}
@@ -46,19 +47,28 @@ acts c =
     let a = start (c .before) .args in
     c .may-act .ensures ∙ ap (λ x. may-act (a .kind) (x .domain) (a .e .actor)) (named (c .before))
 
--- what is told of the actor's test is told of the row
-barred : (c : tie.After-may-act) {v : Bool} → let a = start (c .before) .args in (not (c .may-act .result) || a .nobody) ≡ v
-    → (not (may-act (a .kind) (certificate-named (decode (a .s .now)) (a .e .id) .domain) (a .e .actor)) || a .nobody) ≡ v
-barred c h = ap (λ b. not b || start (c .before) .args .nobody) (sym (acts c)) ∙ h
+-- and is whom the certificate belongs to, where it has to be
+owns : (c : tie.After-acts-for) → let a = start (c .before .before) .args in
+    c .acts-for .result ≡ acts-for (with-kind (a .kind) (a .e)) (certificate-named (decode (a .s .now)) (a .e .id))
+owns c =
+    let a = start (c .before .before) .args in
+    c .acts-for .ensures ∙ ap (acts-for (with-kind (a .kind) (a .e))) (named (c .before .before))
 
-past-2 : (c : tie.Else1) {r : ℕ} → Past 2 (c .before .before) r
-past-2 c g = past-1 (c .before .before) (next (barred (c .before) (c .if1 .left)) g)
+-- what is told of the actor's tests is told of the row
+barred : (c : tie.After-acts-for) {v : Bool} → let a = start (c .before .before) .args in
+    (not (c .before .may-act .result && c .acts-for .result) || a .nobody) ≡ v
+    → let x = certificate-named (decode (a .s .now)) (a .e .id) in
+    (not (may-act (a .kind) (x .domain) (a .e .actor) && acts-for (with-kind (a .kind) (a .e)) x) || a .nobody) ≡ v
+barred c h = ap₂ (λ b d. not (b && d) || start (c .before .before) .args .nobody) (sym (acts (c .before))) (sym (owns c)) ∙ h
 
-is-there : (c : tie.After-is-present) → let a = start (c .before .before .before) .args in
+past-2 : (c : tie.Else1) {r : ℕ} → Past 2 (c .before .before .before) r
+past-2 c g = past-1 (c .before .before .before) (next (barred (c .before) (c .if1 .left)) g)
+
+is-there : (c : tie.After-is-present) → let a = start (c .before .before .before .before) .args in
     c .is-present .result ≡ present (decode (a .s .now) .trust .seen) (certificate-named (decode (a .s .now)) (a .e .id))
 is-there c =
-    let p = decode (start (c .before .before .before) .args .s .now) in
-    c .is-present .ensures ∙ ap (present (p .trust .seen)) (named (c .before .before .before))
+    let p = decode (start (c .before .before .before .before) .args .s .now) in
+    c .is-present .ensures ∙ ap (present (p .trust .seen)) (named (c .before .before .before .before))
 
 certificate-requires : tie.Need-certificate-requires
 certificate-requires c κs =
@@ -71,7 +81,7 @@ may-act-requires c κs =
     omega (arith, ap (λ x. x .domain) (c .certificate .ensures), a .pre .0 .certificate-domains (c .before .before .slot .given .0 .0))
 
 returns : tie.Need-returns
-returns c = plan-refused _ _ (omega arith) (past-1 (c .before .before) (here (barred (c .before) (c .if1 .taken))))
+returns c = plan-refused _ _ (omega arith) (past-1 (c .before .before .before) (here (barred (c .before) (c .if1 .taken))))
 
 returns-2 : tie.Need-returns-2
 returns-2 c = plan-refused _ _ (omega arith) (past-2 (c .before .before) (here (says (is-there (c .before)) (c .if2 .taken))))
@@ -83,7 +93,7 @@ returns-3 c =
 
 returns-4 : tie.Need-returns-4
 returns-4 c =
-    let k = c .before .before .before .before in
+    let k = c .before .before .before .before .before in
     plan-on _ _ (at-first (has-id _) _ (looked k .certificate-slot .ensures) (k .before .before .slot .given .1))
     (past-2 (c .before .before) (next (says (is-there (c .before)) (c .if2 .left)) none))
 
@@ -94,6 +104,7 @@ on-certificate-spec =
     (λ c κs. search needs) (λ c. search needs) (λ c. search needs)
     certificate-requires
     may-act-requires
+    (λ c κs. search needs)
     returns
     (λ c κs. search needs)
     returns-2
