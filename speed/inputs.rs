@@ -1,12 +1,18 @@
-//! The images and events that are measured: a full phone as a class might have it, the worst case for the search, and a lesson;
-//! and damaged images, which both monitors have to refuse for the same rule and at the same byte.
+//! The images and events that are measured: a full phone as a class might have it, the worst case
+//! for the search, and a lesson; and damaged images, which both monitors have to refuse for the same
+//! rule and at the same byte.
 
-pub const SIZES: [usize; 4] = [8, 16, 32, 64];
-pub const EVENT: usize = 24;
+use crate::monitor::{
+    actor, card, certificate, certificate_kind, code, domain, event, executable, header, kind,
+    mark, mode, row, rule, table, ACTIONS_MAX, CARDS_MAX, CARD_SIZE, CERTIFICATES_MAX,
+    CERTIFICATE_SIZE, DISABLED, ENABLED, EVENT_SIZE, EXECUTABLE_SIZE, HEADER_SIZE, IMAGE_VERSION,
+    LISTED_MAX, ROW_SIZE,
+};
 
-const CARDS: u16 = 8;
-const ACTIONS: usize = 32;
-const CLOCK: u32 = 100;
+pub const SIZES: [usize; 4] = [8, 16, 32, CERTIFICATES_MAX];
+
+/// The clock of every image.
+pub const CLOCK: u32 = 100;
 
 const OPERATOR_ROOT: u32 = 1000;
 const MANUFACTURER_ROOT: u32 = 2000;
@@ -17,6 +23,16 @@ const ROOT_IDS: [u16; 4] = [1, 2, 3, 4];
 const OWNER: u32 = 501;
 /// When everything runs out that is not damaged.
 const EXPIRY: u32 = 100_000;
+
+/// The rows of the table, in turn.
+const ROWS: [[u8; ROW_SIZE]; 3] = {
+    use table::{FREELY, NEVER, WITH_PERMISSION as ASK};
+    [
+        [FREELY, FREELY, FREELY, FREELY],
+        [ASK, FREELY, FREELY, ASK],
+        [NEVER, ASK, FREELY, ASK],
+    ]
+};
 
 /// A certificate, in the order of its fields.
 #[derive(Clone, Copy)]
@@ -36,7 +52,7 @@ impl Certificate {
     fn write(&self, to: &mut Vec<u8>) {
         put16(to, self.id);
         put16(to, self.place);
-        to.extend_from_slice(&[self.kind, self.domain, self.mark, 1]);
+        to.extend_from_slice(&[self.kind, self.domain, self.mark, ENABLED]);
         for number in [self.key, self.by, self.owner, self.expiry] {
             put32(to, number);
         }
@@ -52,30 +68,78 @@ fn put32(to: &mut Vec<u8>, number: u32) {
 }
 
 fn root(id: u16, place: u16, domain: u8, mark: u8, key: u32) -> Certificate {
-    Certificate { id, place, kind: 0, domain, mark, key, by: 0, owner: OWNER, expiry: EXPIRY }
+    Certificate {
+        id,
+        place,
+        kind: certificate_kind::ROOT,
+        domain,
+        mark,
+        key,
+        by: 0,
+        owner: OWNER,
+        expiry: EXPIRY,
+    }
 }
 
 fn issued(id: u16, place: u16, domain: u8, key: u32, by: u32) -> Certificate {
-    Certificate { id, place, kind: 1, domain, mark: 1, key, by, owner: OWNER, expiry: EXPIRY }
+    Certificate {
+        id,
+        place,
+        kind: certificate_kind::ISSUED,
+        domain,
+        mark: mark::VALID,
+        key,
+        by,
+        owner: OWNER,
+        expiry: EXPIRY,
+    }
 }
 
 /// Four roots, and chains of two, three and four links in all three domains under them; two slots are free.
 fn full_certificates(slots: usize) -> Vec<Certificate> {
     let mut all = vec![
-        root(ROOT_IDS[0], 1, 1, 1, OPERATOR_ROOT),
-        root(ROOT_IDS[1], 0, 1, 0, PHONE_OPERATOR_ROOT),
-        root(ROOT_IDS[2], 0, 2, 1, MANUFACTURER_ROOT),
-        root(ROOT_IDS[3], 0, 3, 1, THIRD_PARTY_ROOT),
+        root(ROOT_IDS[0], 1, domain::OPERATOR, mark::VALID, OPERATOR_ROOT),
+        root(
+            ROOT_IDS[1],
+            0,
+            domain::OPERATOR,
+            mark::INVALID,
+            PHONE_OPERATOR_ROOT,
+        ),
+        root(
+            ROOT_IDS[2],
+            0,
+            domain::MANUFACTURER,
+            mark::VALID,
+            MANUFACTURER_ROOT,
+        ),
+        root(
+            ROOT_IDS[3],
+            0,
+            domain::THIRD_PARTY,
+            mark::VALID,
+            THIRD_PARTY_ROOT,
+        ),
     ];
     let roots = [OPERATOR_ROOT, MANUFACTURER_ROOT, THIRD_PARTY_ROOT];
     let mut last = roots;
     for n in 0..slots - 6 {
         let domain = n % 3;
         let depth = (n / 3) % 3;
-        let by = if depth == 0 { roots[domain] } else { last[domain] };
+        let by = if depth == 0 {
+            roots[domain]
+        } else {
+            last[domain]
+        };
         let key = 10_000 + n as u32;
         last[domain] = key;
-        all.push(issued(100 + n as u16, (n % 2) as u16, domain as u8 + 1, key, by));
+        all.push(issued(
+            100 + n as u16,
+            (n % 2) as u16,
+            domain as u8 + 1,
+            key,
+            by,
+        ));
     }
     all
 }
@@ -87,11 +151,21 @@ fn worst_certificates(slots: usize) -> Vec<Certificate> {
         .map(|n| {
             let level = n * 3 / issued_slots;
             let key = 10_000 - level as u32;
-            let by = if level == 2 { THIRD_PARTY_ROOT } else { key - 1 };
-            issued(100 + n as u16, 0, 3, key, by)
+            let by = if level == 2 {
+                THIRD_PARTY_ROOT
+            } else {
+                key - 1
+            };
+            issued(100 + n as u16, 0, domain::THIRD_PARTY, key, by)
         })
         .collect();
-    all.push(root(ROOT_IDS[3], 0, 3, 1, THIRD_PARTY_ROOT));
+    all.push(root(
+        ROOT_IDS[3],
+        0,
+        domain::THIRD_PARTY,
+        mark::VALID,
+        THIRD_PARTY_ROOT,
+    ));
     all
 }
 
@@ -106,26 +180,32 @@ struct Frame {
 
 impl Frame {
     fn of(slots: usize) -> Frame {
-        let cards_at = 40 + 24 * slots;
-        let executables_at = cards_at + 8 * CARDS as usize;
-        let table_at = executables_at + 12 * slots;
-        Frame { slots, cards_at, executables_at, table_at, total: table_at + 4 * ACTIONS }
+        let cards_at = HEADER_SIZE + CERTIFICATE_SIZE * slots;
+        let executables_at = cards_at + CARD_SIZE * CARDS_MAX;
+        let table_at = executables_at + EXECUTABLE_SIZE * slots;
+        Frame {
+            slots,
+            cards_at,
+            executables_at,
+            table_at,
+            total: table_at + ROW_SIZE * ACTIONS_MAX,
+        }
     }
 
     fn certificate(&self, slot: usize) -> usize {
-        40 + 24 * slot
+        HEADER_SIZE + CERTIFICATE_SIZE * slot
     }
 
     fn card(&self, index: usize) -> usize {
-        self.cards_at + 8 * index
+        self.cards_at + CARD_SIZE * index
     }
 
     fn executable(&self, slot: usize) -> usize {
-        self.executables_at + 12 * slot
+        self.executables_at + EXECUTABLE_SIZE * slot
     }
 
     fn row(&self, action: usize) -> usize {
-        self.table_at + 4 * action
+        self.table_at + ROW_SIZE * action
     }
 }
 
@@ -137,24 +217,40 @@ pub fn image(which: usize, slots: usize) -> Vec<u8> {
     };
     let frame = Frame::of(slots);
     let mut all = Vec::with_capacity(frame.total);
-    let counts = [1, slots as u16, CARDS, slots as u16, ACTIONS as u16, 1, 1, 0];
-    counts.iter().for_each(|count| put16(&mut all, *count));
+    put16(&mut all, IMAGE_VERSION);
+    let counts = [slots, CARDS_MAX, slots, ACTIONS_MAX];
+    counts
+        .iter()
+        .for_each(|count| put16(&mut all, *count as u16));
+    // The standing mode, the card present, and the zero behind it.
+    let settings = [u16::from(mode::ENABLE_ALL), 1, 0];
+    settings
+        .iter()
+        .for_each(|setting| put16(&mut all, *setting));
     put32(&mut all, CLOCK);
-    let ends = [40, frame.cards_at, frame.executables_at, frame.table_at, frame.total];
+    let ends = [
+        HEADER_SIZE,
+        frame.cards_at,
+        frame.executables_at,
+        frame.table_at,
+        frame.total,
+    ];
     ends.iter().for_each(|at| put32(&mut all, *at as u32));
-    certificates.iter().for_each(|record| record.write(&mut all));
+    certificates
+        .iter()
+        .for_each(|record| record.write(&mut all));
     all.resize(frame.cards_at, 0);
-    for card in 1..=CARDS {
-        put16(&mut all, card);
+    for number in 1..=CARDS_MAX as u16 {
+        put16(&mut all, number);
         put16(&mut all, 0);
-        put32(&mut all, 500 + u32::from(card));
+        put32(&mut all, 500 + u32::from(number));
     }
     for n in 0..slots - 2 {
         write_executable(&mut all, n, &certificates, which);
     }
     all.resize(frame.table_at, 0);
-    for action in 0..ACTIONS {
-        all.extend_from_slice(&[[2, 2, 2, 2], [1, 2, 2, 1], [0, 1, 2, 1]][action % 3]);
+    for action in 0..ACTIONS_MAX {
+        all.extend_from_slice(&ROWS[action % ROWS.len()]);
     }
     all
 }
@@ -167,10 +263,15 @@ fn write_executable(all: &mut Vec<u8>, n: usize, certificates: &[Certificate], w
     };
     let trusted = which == 1 || n % 4 != 3;
     put16(all, n as u16 + 1);
-    all.push(if trusted { signer.domain } else { 0 });
+    all.push(if trusted {
+        signer.domain
+    } else {
+        domain::UNTRUSTED
+    });
     all.push(0);
     put32(all, signer.key);
-    put32(all, 2);
+    // The user permits action 1.
+    put32(all, 1 << 1);
 }
 
 /// What is measured: the events behind the first `before` of them.
@@ -183,65 +284,102 @@ pub struct Row {
     pub code: Option<u8>,
 }
 
+/// Writes a field of four bytes.
+fn set32(bytes: &mut [u8], at: usize, number: u32) {
+    bytes[at..at + 4].copy_from_slice(&number.to_be_bytes());
+}
+
 fn event(kind: u8, actor: u8, id: u16, second: u16, key: u32) -> Vec<u8> {
     let mut all = vec![kind, actor];
     put16(&mut all, id);
     put16(&mut all, second);
-    all.resize(8, 0);
+    all.resize(event::KEY, 0);
     put32(&mut all, key);
-    all.resize(EVENT, 0);
+    all.resize(EVENT_SIZE, 0);
     // An operator or a manufacturer that deletes or marks a certificate says who it is.
-    if (6..=8).contains(&kind) && (2..=3).contains(&actor) {
-        all[16..20].copy_from_slice(&OWNER.to_be_bytes());
+    if (kind::DELETE_CERTIFICATE..=kind::MARK_INVALID).contains(&kind)
+        && (actor::OPERATOR..=actor::MANUFACTURER).contains(&actor)
+    {
+        set32(&mut all, event::OWNER, OWNER);
     }
     all
 }
 
+/// What the device does.
+fn device(kind: u8, id: u16, second: u16) -> Vec<u8> {
+    event(kind, actor::DEVICE, id, second, 0)
+}
+
+/// What the user does.
+fn user(kind: u8, id: u16, second: u16, key: u32) -> Vec<u8> {
+    event(kind, actor::USER, id, second, key)
+}
+
+/// What the manufacturer does with its root.
+fn manufacturer(kind: u8) -> Vec<u8> {
+    event(kind, actor::MANUFACTURER, ROOT_IDS[2], 0, 0)
+}
+
 fn clock(to: u32) -> Vec<u8> {
-    event(1, 0, 0, 0, to)
+    event(kind::CLOCK, actor::DEVICE, 0, 0, to)
 }
 
 /// The manufacturer's recovery key, beside the root of its owner.
 fn install_recovery(id: u16) -> Vec<u8> {
-    let mut all = event(5, 3, id, 0, RECOVERY_KEY);
-    all[6..8].copy_from_slice(&[2, 2]);
-    all[16..20].copy_from_slice(&OWNER.to_be_bytes());
+    let mut all = event(
+        kind::INSTALL_CERTIFICATE,
+        actor::MANUFACTURER,
+        id,
+        0,
+        RECOVERY_KEY,
+    );
+    all[event::THIRD] = certificate_kind::RECOVERY;
+    all[event::FOURTH] = domain::MANUFACTURER;
+    set32(&mut all, event::OWNER, OWNER);
     all
 }
 
 /// The manufacturer's root gets another key, and everything below it is to be settled.
 fn replace(recovery: u16) -> Vec<u8> {
-    let mut all = event(16, 3, ROOT_IDS[2], recovery, 60_001);
-    all[12..16].copy_from_slice(&RECOVERY_KEY.to_be_bytes());
-    all[16..20].copy_from_slice(&OWNER.to_be_bytes());
-    all[20..24].copy_from_slice(&EXPIRY.to_be_bytes());
+    let mut all = event(
+        kind::REPLACE,
+        actor::MANUFACTURER,
+        ROOT_IDS[2],
+        recovery,
+        60_001,
+    );
+    set32(&mut all, event::VERIFYING, RECOVERY_KEY);
+    set32(&mut all, event::OWNER, OWNER);
+    set32(&mut all, event::EXPIRY, EXPIRY);
     all
 }
 
 fn install_certificate(id: u16) -> Vec<u8> {
-    let mut all = event(5, 1, id, 0, 60_000);
-    all[6..8].copy_from_slice(&[1, 3]);
-    all[12..16].copy_from_slice(&THIRD_PARTY_ROOT.to_be_bytes());
-    all[20..24].copy_from_slice(&EXPIRY.to_be_bytes());
+    let mut all = user(kind::INSTALL_CERTIFICATE, id, 0, 60_000);
+    all[event::THIRD] = certificate_kind::ISSUED;
+    all[event::FOURTH] = domain::THIRD_PARTY;
+    set32(&mut all, event::VERIFYING, THIRD_PARTY_ROOT);
+    set32(&mut all, event::EXPIRY, EXPIRY);
     all
 }
 
 /// Enables the third party root, named in all eight places, and disables the rest.
 fn message() -> Vec<u8> {
-    let mut all = event(9, 4, 0, 0, 0);
-    all[6..8].copy_from_slice(&[2, 8]);
-    for place in all[8..].chunks_exact_mut(2) {
+    let mut all = event(kind::MESSAGE, actor::ADMINISTRATOR, 0, 0, 0);
+    all[event::THIRD] = mode::ENABLE_LISTED;
+    all[event::FOURTH] = LISTED_MAX as u8;
+    for place in all[event::LISTED..].chunks_exact_mut(2) {
         place.copy_from_slice(&ROOT_IDS[3].to_be_bytes());
     }
     all
 }
 
 fn verify(id: u16) -> Vec<u8> {
-    event(12, 0, id, 0, 0)
+    device(kind::VERIFY, id, 0)
 }
 
 fn request(id: u16, action: u16) -> Vec<u8> {
-    event(15, 0, id, action, 0)
+    device(kind::REQUEST, id, action)
 }
 
 /// A lesson: what a class does, most of it asking.
@@ -251,24 +389,25 @@ fn lesson(slots: usize) -> Vec<Vec<u8>> {
     for turn in 0..4u16 {
         let id = 1 + (turn * 5) % last;
         all.extend((0..6).map(|n| request(1 + (id + n) % last, n)));
-        all.push(event(13, 1, id, 1, 0));
+        all.push(user(kind::GIVE, id, 1, 0));
         all.push(request(id, 1));
         all.push(clock(CLOCK + 1 + u32::from(turn)));
         all.push(request(id, 4));
-        all.push(event(3, 0, 0, 0, 0));
+        all.push(device(kind::CARD_OUT, 0, 0));
         all.extend((0..3).map(|n| request(1 + (id + n) % last, 2)));
-        all.push(event(2, 0, 0, 1, 0));
+        all.push(device(kind::CARD_IN, 0, 1));
         all.extend((0..4).map(|n| verify(1 + (id + n) % last)));
         all.extend((0..3).map(|n| request(1 + (id + n) % last, 2)));
-        all.push(event(14, 1, id, 1, 0));
-        all.push(event(10, 1, 50_000, 0, MANUFACTURER_ROOT));
+        all.push(user(kind::WITHDRAW, id, 1, 0));
+        all.push(user(kind::INSTALL_EXECUTABLE, 50_000, 0, MANUFACTURER_ROOT));
         all.push(verify(50_000));
         all.push(request(50_000, 0));
-        all.push(event(11, 1, 50_000, 0, 0));
-        all.push(event(8, 3, ROOT_IDS[2], 0, 0));
+        all.push(user(kind::DELETE_EXECUTABLE, 50_000, 0, 0));
+        all.push(manufacturer(kind::MARK_INVALID));
         all.push(request(id, 5));
-        all.push(event(7, 3, ROOT_IDS[2], 0, 0));
-        all.push(event(7, 1, ROOT_IDS[2], 0, 0));
+        all.push(manufacturer(kind::MARK_VALID));
+        // Which the user may not.
+        all.push(user(kind::MARK_VALID, ROOT_IDS[2], 0, 0));
         all.push(verify(id));
         all.push(message());
     }
@@ -282,39 +421,95 @@ pub fn rows(slots: usize) -> Vec<Row> {
     let trusted = (1..=last).rev().find(|id| id % 4 != 0).unwrap_or(1);
     let untrusted = (1..=last).rev().find(|id| id % 4 == 0).unwrap_or(4);
     let deepest = 100 + slots as u16 - 7;
-    let done = |name, event: Vec<u8>| Row { name, image: 0, events: event, before: 0, code: Some(0) };
+    let its_actor = [actor::OPERATOR, actor::MANUFACTURER, actor::USER][(slots - 7) % 3];
+    let done = |name, event: Vec<u8>| Row {
+        name,
+        image: 0,
+        events: event,
+        before: 0,
+        code: Some(code::DONE),
+    };
     let after = |name, first: Vec<u8>, event: Vec<u8>| Row {
         name,
         image: 0,
         events: [first, event].concat(),
         before: 1,
-        code: Some(0),
+        code: Some(code::DONE),
     };
-    let refused = |name, event: Vec<u8>, code| Row { name, image: 0, events: event, before: 0, code: Some(code) };
+    let refused = |name, event: Vec<u8>, code| Row {
+        name,
+        image: 0,
+        events: event,
+        before: 0,
+        code: Some(code),
+    };
     vec![
         done("clock", clock(CLOCK + 1)),
-        after("card-in", event(3, 0, 0, 0, 0), event(2, 0, 0, 1, 0)),
-        done("card-out", event(3, 0, 0, 0, 0)),
-        done("power-up", event(4, 0, 0, 2, 0)),
+        after(
+            "card-in",
+            device(kind::CARD_OUT, 0, 0),
+            device(kind::CARD_IN, 0, 1),
+        ),
+        done("card-out", device(kind::CARD_OUT, 0, 0)),
+        done("power-up", device(kind::POWER_UP, 0, 2)),
         done("install-certificate", install_certificate(60_000)),
-        done("delete-certificate", event(6, [2, 3, 1][(slots - 7) % 3], deepest, 0, 0)),
-        after("mark-valid", event(8, 3, ROOT_IDS[2], 0, 0), event(7, 3, ROOT_IDS[2], 0, 0)),
-        done("mark-invalid", event(8, 3, ROOT_IDS[2], 0, 0)),
+        done(
+            "delete-certificate",
+            event(kind::DELETE_CERTIFICATE, its_actor, deepest, 0, 0),
+        ),
+        after(
+            "mark-valid",
+            manufacturer(kind::MARK_INVALID),
+            manufacturer(kind::MARK_VALID),
+        ),
+        done("mark-invalid", manufacturer(kind::MARK_INVALID)),
         done("message", message()),
-        done("install-executable", event(10, 1, 60_000, 0, 10_000)),
-        done("delete-executable", event(11, 1, last, 0, 0)),
+        done(
+            "install-executable",
+            user(kind::INSTALL_EXECUTABLE, 60_000, 0, 10_000),
+        ),
+        done(
+            "delete-executable",
+            user(kind::DELETE_EXECUTABLE, last, 0, 0),
+        ),
         done("verify", verify(trusted)),
-        done("give", event(13, 1, last, 31, 0)),
-        done("withdraw", event(14, 1, last, 1, 0)),
+        done("give", user(kind::GIVE, last, 31, 0)),
+        done("withdraw", user(kind::WITHDRAW, last, 1, 0)),
         done("request", request(trusted, 0)),
         done("request-untrusted", request(untrusted, 0)),
-        refused("request-refused", request(untrusted, 2), 15),
+        refused(
+            "request-refused",
+            request(untrusted, 2),
+            code::NEVER_GRANTED,
+        ),
         // The recovery key takes the first of the two free slots, so that it stands last.
         after("replace", install_recovery(60_000), replace(60_000)),
-        refused("malformed", event(17, 0, 1, 0, 0), 2),
-        Row { name: "verify-worst", image: 1, events: verify(last), before: 0, code: Some(0) },
-        Row { name: "clock-worst", image: 1, events: clock(CLOCK + 1), before: 0, code: Some(0) },
-        Row { name: "lesson", image: 0, events: lesson(slots).concat(), before: 0, code: None },
+        refused(
+            "malformed",
+            device(kind::REPLACE + 1, 1, 0),
+            code::MALFORMED,
+        ),
+        Row {
+            name: "verify-worst",
+            image: 1,
+            events: verify(last),
+            before: 0,
+            code: Some(code::DONE),
+        },
+        Row {
+            name: "clock-worst",
+            image: 1,
+            events: clock(CLOCK + 1),
+            before: 0,
+            code: Some(code::DONE),
+        },
+        Row {
+            name: "lesson",
+            image: 0,
+            events: lesson(slots).concat(),
+            before: 0,
+            code: None,
+        },
     ]
 }
 
@@ -341,58 +536,111 @@ pub fn openings(slots: usize) -> Vec<Opening> {
     let broken = |name, rule, offset, damage: &dyn Fn(&mut Vec<u8>)| {
         let mut image = image(0, slots);
         damage(&mut image);
-        Opening { name, image, rule, offset }
+        Opening {
+            name,
+            image,
+            rule,
+            offset,
+        }
     };
     vec![
         broken("open", 0, 0, &|_| ()),
-        broken("open-signers-last", 0, 0, &|image| sign_by_the_last(image, &frame)),
-        broken("open-all-signed", 0, 0, &|image| sign_all_by_the_last(image, &frame)),
-        broken("open-breaks-1", 1, 36, &|image| image.push(0)),
+        broken("open-signers-last", 0, 0, &|image| {
+            sign_by_the_last(image, &frame)
+        }),
+        broken("open-all-signed", 0, 0, &|image| {
+            sign_all_by_the_last(image, &frame)
+        }),
+        broken("open-breaks-1", rule::HEADER, header::TOTAL, &|image| {
+            image.push(0)
+        }),
         // A free slot that is not all zero.
-        broken("open-breaks-2", 2, frame.certificate(slots - 1), &|image| {
-            image[frame.certificate(slots - 1) + 23] = 1;
-        }),
+        broken(
+            "open-breaks-2",
+            rule::CERTIFICATES,
+            frame.certificate(slots - 1),
+            &|image| {
+                image[frame.certificate(slots - 1) + CERTIFICATE_SIZE - 1] = 1;
+            },
+        ),
         // The number of the card before.
-        broken("open-breaks-3", 3, frame.card(7), &|image| image[frame.card(7) + 1] = 7),
-        // The id of the record before.
-        broken("open-breaks-4", 4, frame.certificate(last), &|image| {
-            let before = frame.certificate(last - 1);
-            image.copy_within(before..before + 2, frame.certificate(last));
+        broken("open-breaks-3", rule::CARDS, frame.card(7), &|image| {
+            image.copy_within(frame.card(6)..frame.card(6) + card::BLANK, frame.card(7));
         }),
+        // The id of the record before.
+        broken(
+            "open-breaks-4",
+            rule::KEYS,
+            frame.certificate(last),
+            &|image| {
+                let before = frame.certificate(last - 1);
+                image.copy_within(before..before + certificate::PLACE, frame.certificate(last));
+            },
+        ),
         // A second valid operator root on the card that is present.
-        broken("open-breaks-5", 5, frame.certificate(last), &|image| {
-            let at = frame.certificate(last);
-            image[at + 2..at + 8].copy_from_slice(&[0, 1, 0, 1, 1, 1]);
-            image[at + 12..at + 16].fill(0);
-        }),
-        broken("open-breaks-6", 6, frame.row(ACTIONS - 1), &|image| {
-            image[frame.row(ACTIONS - 1) + 3] = 3;
-        }),
+        broken(
+            "open-breaks-5",
+            rule::VALID_ROOTS,
+            frame.certificate(last),
+            &|image| {
+                let at = frame.certificate(last);
+                image[at + certificate::PLACE..at + certificate::KIND].copy_from_slice(&[0, 1]);
+                image[at + certificate::KIND] = certificate_kind::ROOT;
+                image[at + certificate::DOMAIN] = domain::OPERATOR;
+                image[at + certificate::MARK] = mark::VALID;
+                image[at + certificate::ENABLED] = ENABLED;
+                set32(image, at + certificate::VERIFYING, 0);
+            },
+        ),
+        broken(
+            "open-breaks-6",
+            rule::TABLE,
+            frame.row(ACTIONS_MAX - 1),
+            &|image| {
+                image[frame.row(ACTIONS_MAX - 1) + row::THIRD] = table::FREELY + 1;
+            },
+        ),
         // The id of the record before.
-        broken("open-breaks-7", 7, frame.executable(last), &|image| {
-            let before = frame.executable(last - 1);
-            image.copy_within(before..before + 2, frame.executable(last));
-        }),
-        broken("open-breaks-8", 8, frame.executable(last), &|image| sign_by_nobody(image, frame.executable(last))),
-        broken("open-breaks-8-all", 8, frame.executable(last), &|image| {
-            sign_all_by_the_last(image, &frame);
-            sign_by_nobody(image, frame.executable(last));
-        }),
+        broken(
+            "open-breaks-7",
+            rule::EXECUTABLES,
+            frame.executable(last),
+            &|image| {
+                let before = frame.executable(last - 1);
+                image.copy_within(before..before + executable::DOMAIN, frame.executable(last));
+            },
+        ),
+        broken(
+            "open-breaks-8",
+            rule::CHAINS,
+            frame.executable(last),
+            &|image| sign_by_nobody(image, frame.executable(last)),
+        ),
+        broken(
+            "open-breaks-8-all",
+            rule::CHAINS,
+            frame.executable(last),
+            &|image| {
+                sign_all_by_the_last(image, &frame);
+                sign_by_nobody(image, frame.executable(last));
+            },
+        ),
     ]
 }
 
 /// A third party executable with a key that nobody holds.
 fn sign_by_nobody(image: &mut [u8], at: usize) {
-    image[at + 2] = 3;
-    image[at + 4..at + 8].copy_from_slice(&60_000u32.to_be_bytes());
+    image[at + executable::DOMAIN] = domain::THIRD_PARTY;
+    set32(image, at + executable::SIGNING, 60_000);
 }
 
 /// Those without a domain get the third party one, so that every executable has a signer to be looked for.
 fn sign_all_by_the_last(image: &mut [u8], frame: &Frame) {
     for slot in 0..frame.slots {
         let at = frame.executable(slot);
-        if image[at..at + 2] != [0, 0] && image[at + 2] == 0 {
-            image[at + 2] = 3;
+        let is_free = image[at..at + executable::DOMAIN] == [0, 0];
+        if !is_free && image[at + executable::DOMAIN] == domain::UNTRUSTED {
+            image[at + executable::DOMAIN] = domain::THIRD_PARTY;
         }
     }
     sign_by_the_last(image, frame);
@@ -402,11 +650,18 @@ fn sign_all_by_the_last(image: &mut [u8], frame: &Frame) {
 fn sign_by_the_last(image: &mut [u8], frame: &Frame) {
     for slot in 0..frame.slots {
         let at = frame.executable(slot);
-        let domain = image[at + 2];
-        let is_of_domain = |signer: &usize| image[frame.certificate(*signer) + 5] == domain;
-        if let (true, Some(signer)) = (domain != 0, (0..frame.slots).rev().find(is_of_domain)) {
-            let key = frame.certificate(signer) + 8;
-            image.copy_within(key..key + 4, at + 4);
+        let domain = image[at + executable::DOMAIN];
+        if domain == domain::UNTRUSTED {
+            continue;
+        }
+        let is_of_domain =
+            |signer: &usize| image[frame.certificate(*signer) + certificate::DOMAIN] == domain;
+        if let Some(signer) = (0..frame.slots).rev().find(is_of_domain) {
+            let signer = frame.certificate(signer);
+            image.copy_within(
+                signer + certificate::KEY..signer + certificate::VERIFYING,
+                at + executable::SIGNING,
+            );
         }
     }
 }
@@ -424,7 +679,37 @@ impl Dice {
 }
 
 /// The fields of each record, by their first bytes and with the record's size at the end.
-const FIELDS: [&[usize]; 4] = [&[0, 2, 4, 5, 6, 7, 8, 12, 16, 20, 24], &[0, 2, 4, 8], &[0, 2, 3, 4, 8, 12], &[0, 1, 2, 3, 4]];
+const FIELDS: [&[usize]; 4] = [
+    &[
+        certificate::ID,
+        certificate::PLACE,
+        certificate::KIND,
+        certificate::DOMAIN,
+        certificate::MARK,
+        certificate::ENABLED,
+        certificate::KEY,
+        certificate::VERIFYING,
+        certificate::OWNER,
+        certificate::EXPIRY,
+        CERTIFICATE_SIZE,
+    ],
+    &[card::NUMBER, card::BLANK, card::OPERATOR, CARD_SIZE],
+    &[
+        executable::ID,
+        executable::DOMAIN,
+        executable::BLANK,
+        executable::SIGNING,
+        executable::PERMISSIONS,
+        EXECUTABLE_SIZE,
+    ],
+    &[
+        row::UNTRUSTED,
+        row::OPERATOR,
+        row::MANUFACTURER,
+        row::THIRD,
+        ROW_SIZE,
+    ],
+];
 
 /// An image damaged in one to three places: a byte changed, a record or a field of it written over another, a certificate turned
 /// into a recovery key, roots that run out about now, or the end moved.
@@ -435,7 +720,7 @@ pub fn damaged(which: usize, slots: usize, dice: &mut Dice) -> Vec<u8> {
         match dice.below(18) {
             0 => image.truncate(dice.below(image.len() + 1)),
             1 => image.push(dice.below(2) as u8),
-            2 => poke(&mut image, dice.below(40), dice.below(4) as u8),
+            2 => poke(&mut image, dice.below(HEADER_SIZE), dice.below(4) as u8),
             3 => poke(&mut image, dice.below(frame.total), dice.below(256) as u8),
             4..=6 => poke(&mut image, dice.below(frame.total), dice.below(4) as u8),
             7 => copy_root(&mut image, &frame, dice),
@@ -461,8 +746,10 @@ fn copy_root(image: &mut [u8], frame: &Frame, dice: &mut Dice) {
     let from = frame.certificate(dice.below(4));
     let to = frame.certificate(dice.below(frame.slots));
     if frame.cards_at <= image.len() {
-        image.copy_within(from + 2..from + 8, to + 2);
-        image.copy_within(from + 12..from + 24, to + 12);
+        let (first, key) = (certificate::PLACE, certificate::KEY);
+        image.copy_within(from + first..from + key, to + first);
+        let (rest, end) = (certificate::VERIFYING, CERTIFICATE_SIZE);
+        image.copy_within(from + rest..from + end, to + rest);
     }
 }
 
@@ -473,18 +760,23 @@ fn make_recovery(image: &mut [u8], frame: &Frame, dice: &mut Dice) {
     if frame.cards_at > image.len() {
         return;
     }
-    if image[at..at + 24] == [0; 24] {
-        image[at..at + 2].copy_from_slice(&60_000u16.to_be_bytes());
-        image[at + 8..at + 12].copy_from_slice(&RECOVERY_KEY.to_be_bytes());
+    if image[at..at + CERTIFICATE_SIZE] == [0; CERTIFICATE_SIZE] {
+        image[at + certificate::ID..at + certificate::PLACE]
+            .copy_from_slice(&60_000u16.to_be_bytes());
+        set32(image, at + certificate::KEY, RECOVERY_KEY);
     }
-    image[at + 2..at + 8].copy_from_slice(&[0, 0, 2, 1 + dice.below(2) as u8, 0, 1]);
-    image[at + 12..at + 16].fill(0);
+    image[at + certificate::PLACE..at + certificate::KIND].fill(0);
+    image[at + certificate::KIND] = certificate_kind::RECOVERY;
+    image[at + certificate::DOMAIN] = domain::OPERATOR + dice.below(2) as u8;
+    image[at + certificate::MARK] = mark::INVALID;
+    image[at + certificate::ENABLED] = ENABLED;
+    set32(image, at + certificate::VERIFYING, 0);
     match dice.below(10) {
-        0 => image[at + 3] = 1,
-        1 => image[at + 5] = 3,
-        2 => image[at + 6] = 1,
-        3 => image[at + 7] = 0,
-        4 => image[at + 15] = 1,
+        0 => image[at + certificate::PLACE + 1] = 1,
+        1 => image[at + certificate::DOMAIN] = domain::THIRD_PARTY,
+        2 => image[at + certificate::MARK] = mark::VALID,
+        3 => image[at + certificate::ENABLED] = DISABLED,
+        4 => set32(image, at + certificate::VERIFYING, 1),
         _ => (),
     }
 }
@@ -498,29 +790,38 @@ fn end_roots(image: &mut [u8], frame: &Frame, dice: &mut Dice) {
     for _ in 0..1 + dice.below(3) {
         let at = frame.certificate(dice.below(4));
         let expiry = CLOCK - dice.below(2) as u32;
-        image[at + 20..at + 24].copy_from_slice(&expiry.to_be_bytes());
+        set32(image, at + certificate::EXPIRY, expiry);
         if dice.below(2) == 0 {
-            image[at + 6] = 1;
+            image[at + certificate::MARK] = mark::VALID;
         }
     }
     if dice.below(4) != 0 {
-        (0..frame.slots).for_each(|slot| image[frame.executable(slot) + 2] = 0);
+        for slot in 0..frame.slots {
+            image[frame.executable(slot) + executable::DOMAIN] = domain::UNTRUSTED;
+        }
     }
 }
 
 /// Writes a field of one record, or all of it, over that of another of the same table.
 fn copy_field(image: &mut [u8], frame: &Frame, table: usize, dice: &mut Dice) {
     let (start, count) = [
-        (40, frame.slots),
-        (frame.cards_at, CARDS as usize),
+        (HEADER_SIZE, frame.slots),
+        (frame.cards_at, CARDS_MAX),
         (frame.executables_at, frame.slots),
-        (frame.table_at, ACTIONS),
+        (frame.table_at, ACTIONS_MAX),
     ][table];
     let fields = FIELDS[table];
     let size = fields[fields.len() - 1];
-    let (from, to) = (start + size * dice.below(count), start + size * dice.below(count));
+    let (from, to) = (
+        start + size * dice.below(count),
+        start + size * dice.below(count),
+    );
     let field = dice.below(fields.len());
-    let (first, end) = if field + 1 < fields.len() { (fields[field], fields[field + 1]) } else { (0, size) };
+    let (first, end) = if field + 1 < fields.len() {
+        (fields[field], fields[field + 1])
+    } else {
+        (0, size)
+    };
     if from.max(to) + size <= image.len() {
         image.copy_within(from + first..from + end, to + first);
     }

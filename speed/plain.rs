@@ -1228,7 +1228,9 @@ impl<'a> Phone<'a> {
         let at = slot * certificate::SIZE;
         let record = &self.certificates[at..at + certificate::SIZE];
         check_actor(event, record[certificate::DOMAIN])?;
-        if names_itself(event) && event[event::OWNER..event::EXPIRY] != record[certificate::OWNER..certificate::EXPIRY] {
+        if names_itself(event)
+            && event[event::OWNER..event::EXPIRY] != record[certificate::OWNER..certificate::EXPIRY]
+        {
             return Err(NOT_ALLOWED);
         }
         if !now.is_present(record) {

@@ -6,7 +6,7 @@ const SIZE: usize = 256 * 1024;
 const PAINT: u8 = 0xa5;
 
 extern "C" fn call(f: *mut &mut dyn FnMut()) {
-    // The pointer is to the closure of `used_by`, which waits for this call.
+    // SAFETY: the pointer is to the closure of `used_by`, which waits for this call.
     unsafe { (*f)() }
 }
 
@@ -16,6 +16,8 @@ pub fn used_by(mut f: impl FnMut()) -> usize {
     let top = (space.as_mut_ptr() as usize + SIZE) & !63;
     let call: extern "C" fn(*mut &mut dyn FnMut()) = call;
     let mut object: &mut dyn FnMut() = &mut f;
+    // SAFETY: `top` is the end of a space of our own, aligned as a stack has to be; the stack before
+    // is kept in a register that a call leaves alone, and is taken again behind the call.
     unsafe {
         asm!(
             "mov r12, rsp",

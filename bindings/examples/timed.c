@@ -1,0 +1,57 @@
+/*
+ * Plays a timed lesson, an image and then a timeline: its events are written
+ * out with the clock events put in, and run. From the top of the repository, on
+ * x86-64:
+ *
+ *     rt staticlib monitor
+ *     cc -Ibindings bindings/examples/timed.c target/staticlib/libmonitor.a -o target/timed && target/timed lessons/timed-lesson.in
+ */
+#include <stdio.h>
+
+#include "monitor.h"
+
+static uint8_t image[MONITOR_IMAGE_MAX];
+/* A byte more than the largest has, so that one that is too long is seen to be. */
+static uint8_t timeline[MONITOR_TIMELINE_MAX + 1];
+static uint8_t events[MONITOR_EVENTS_SIZE];
+static uint8_t answers[MONITOR_EVENTS_MAX * MONITOR_ANSWER_SIZE];
+
+int main(int argc, char **argv)
+{
+    if (argc != 2) {
+        fprintf(stderr, "usage: timed FILE\n");
+        return 2;
+    }
+    FILE *file = fopen(argv[1], "rb");
+    if (file == NULL) {
+        perror(argv[1]);
+        return 2;
+    }
+
+    /* The header says how long the image is. Where it says what no image has, the rest is not read. */
+    size_t length = fread(image, 1, MONITOR_HEADER_SIZE, file);
+    size_t total = MONITOR_GET32(image + MONITOR_HEADER_TOTAL);
+    if (length < total && total <= sizeof image)
+        length += fread(image + length, 1, total - length, file);
+    size_t timeline_length = fread(timeline, 1, sizeof timeline, file);
+
+    uint64_t told = monitor_timeline(image, length, timeline, timeline_length, events, sizeof events);
+    if (MONITOR_CODE(told) == MONITOR_CODE_IMAGE) {
+        fprintf(stderr, "%s: the image breaks rule %d at byte %d\n", argv[1], MONITOR_RULE(told), MONITOR_OFFSET(told));
+        return 1;
+    }
+    if (MONITOR_CODE(told) == MONITOR_CODE_TIMELINE) {
+        fprintf(stderr, "%s: the timeline breaks its form\n", argv[1]);
+        return 1;
+    }
+
+    /* There is room for every answer, so all events are answered. */
+    size_t count = monitor_run(image, length, events, MONITOR_EVENTS(told) * MONITOR_EVENT_SIZE, answers, sizeof answers);
+    puts("event kind code domain links");
+    for (size_t i = 0; i < count; i++) {
+        const uint8_t *answer = answers + i * MONITOR_ANSWER_SIZE;
+        int kind = events[i * MONITOR_EVENT_SIZE + MONITOR_EVENT_KIND];
+        printf("%d %d %d %d %d\n", (int)i + 1, kind, MONITOR_RUN_CODE(answer), MONITOR_RUN_DOMAIN(answer), MONITOR_RUN_LINKS(answer));
+    }
+    return 0;
+}
