@@ -5,6 +5,7 @@
 //! hex, so that every byte string has a text form that leads back to exactly the same bytes. README.md
 //! has the grammar.
 
+mod places;
 mod timelines;
 
 use crate::bench::{event_records, split_stream};
@@ -15,6 +16,8 @@ use crate::phone::{
     MOST_CARDS, MOST_CERTIFICATES, MOST_EXECUTABLES, RECOVERY, ROOT, TABLE_ROW_SIZE,
 };
 
+use places::PartLines;
+pub use places::{Place, PlacedBytes};
 pub use timelines::timeline_to_text;
 use timelines::Timeline;
 
@@ -278,7 +281,8 @@ fn action_text(number: usize, row: &TableRow) -> String {
     line
 }
 
-fn event_text(record: &[u8]) -> String {
+/// One event in words, or in hex where it has none.
+pub fn event_text(record: &[u8]) -> String {
     Event::decode(record)
         .and_then(|event| event_words(&event))
         .filter(|line| matches!(read_event_line(line), Ok(read) if read == record))
@@ -502,10 +506,13 @@ fn hex_pair(word: &str) -> Option<u8> {
 /// What has been read so far.
 #[derive(Default)]
 struct Reading {
-    /// The phone, and the line that it began on.
-    phone: Option<(usize, Phone)>,
+    phone: Option<Phone>,
+    /// The lines of the phone and of its parts.
+    lines: PartLines,
     /// The bytes behind the image, or all of them where there is no phone.
     rest: Vec<u8>,
+    /// Each line of those bytes, and how many of them it has.
+    rest_lines: Vec<(usize, usize)>,
     /// The line of the first event, and of the first bytes where there is a phone.
     first_event: Option<usize>,
     /// What stands behind all these, where the text is a timeline.
@@ -523,11 +530,37 @@ impl Reading {
             self.first_event.get_or_insert(words.line);
         }
         self.rest.extend(bytes);
+        self.rest_lines.push((words.line, bytes.len()));
+    }
+
+    /// All the bytes, with the line of each, where the last line leaves nothing open.
+    fn placed(self) -> Result<PlacedBytes, Wrong> {
+        let mut placed = PlacedBytes::default();
+        if let Some(phone) = &self.phone {
+            if phone.table.is_empty() {
+                return Err(Wrong {
+                    line: self.lines.phone,
+                    message: "expected at least one action line for this phone, found none".into(),
+                });
+            }
+            placed.push_phone(phone, &self.lines);
+        }
+        placed.push_rest(&self.rest, &self.rest_lines);
+        if let Some(timeline) = self.timeline {
+            timeline.check_not_waiting()?;
+            timeline.place_into(&mut placed);
+        }
+        Ok(placed)
     }
 }
 
 /// The bytes of a text, or the first line that could not be understood.
 pub fn to_bytes(text: &str) -> Result<Vec<u8>, Wrong> {
+    to_placed_bytes(text).map(|placed| placed.bytes)
+}
+
+/// The bytes of a text with the line of each, or the first line that could not be understood.
+pub fn to_placed_bytes(text: &str) -> Result<PlacedBytes, Wrong> {
     let mut reading = Reading::default();
     for (at, line) in text.lines().enumerate() {
         let mut words = Words::of(line, at + 1);
@@ -536,21 +569,7 @@ pub fn to_bytes(text: &str) -> Result<Vec<u8>, Wrong> {
             words.end()?;
         }
     }
-    let mut bytes = match reading.phone {
-        Some((line, phone)) if phone.table.is_empty() => {
-            return Err(Wrong {
-                line,
-                message: "expected at least one action line for this phone".to_string(),
-            })
-        }
-        Some((_, phone)) => phone.encode(),
-        None => Vec::new(),
-    };
-    bytes.extend(reading.rest);
-    if let Some(timeline) = reading.timeline {
-        bytes.extend(timeline.bytes()?);
-    }
-    Ok(bytes)
+    reading.placed()
 }
 
 fn read_line(reading: &mut Reading, words: &mut Words) -> Result<(), Wrong> {
@@ -581,7 +600,7 @@ fn read_timeline_line(reading: &mut Reading, words: &mut Words) -> Result<(), Wr
         return Err(Wrong {
             line,
             message: format!(
-                "expected an `at` line before this, since line {maker} makes the text a timeline"
+                "expected an `at` line before this, since line {maker} makes the text a timeline, found none"
             ),
         });
     }
@@ -591,10 +610,11 @@ fn read_timeline_line(reading: &mut Reading, words: &mut Words) -> Result<(), Wr
 
 fn read_phone(reading: &mut Reading, words: &mut Words) -> Result<(), Wrong> {
     if reading.phone.is_some() {
-        return words.wrong("expected one phone line only".to_string());
+        return words.wrong("expected one phone line only, found a second one".to_string());
     }
     if reading.is_behind_image() {
-        return words.wrong("expected the phone before all events and bytes".to_string());
+        return words
+            .wrong("expected the phone before all events and bytes, found it behind them".into());
     }
     words.literal("phone")?;
     let mode: u16 = words.named("mode")?;
@@ -613,40 +633,39 @@ fn read_phone(reading: &mut Reading, words: &mut Words) -> Result<(), Wrong> {
         executables: Vec::new(),
         table: Vec::new(),
     };
-    reading.phone = Some((words.line, phone));
+    reading.phone = Some(phone);
+    reading.lines.phone = words.line;
     Ok(())
 }
 
 fn read_part(reading: &mut Reading, words: &mut Words) -> Result<(), Wrong> {
     if reading.is_behind_image() {
-        return words.wrong("expected the parts of the phone before all events and bytes".into());
+        let part = words.peek().unwrap_or("one");
+        return words.wrong(format!(
+            "expected the parts of the phone before all events and bytes, found `{part}` behind them"
+        ));
     }
-    let Some((_, phone)) = &mut reading.phone else {
-        return words.wrong("expected a phone line before its parts".to_string());
+    let lines = &mut reading.lines;
+    let Some(phone) = &mut reading.phone else {
+        return words.expected("a phone line before its parts");
     };
     if words.take("certificate") {
         let slot = read_certificate(words)?;
-        push_part(
-            words,
-            &mut phone.certificates,
-            slot,
-            MOST_CERTIFICATES,
-            "certificate",
-        )
+        lines.certificates.push(words.line);
+        let most = MOST_CERTIFICATES;
+        push_part(words, &mut phone.certificates, slot, most, "certificate")
     } else if words.take("card") {
         let card = read_card(words)?;
+        lines.cards.push(words.line);
         push_part(words, &mut phone.cards, card, MOST_CARDS, "card")
     } else if words.take("executable") {
         let slot = read_executable(words)?;
-        push_part(
-            words,
-            &mut phone.executables,
-            slot,
-            MOST_EXECUTABLES,
-            "executable",
-        )
+        lines.executables.push(words.line);
+        let most = MOST_EXECUTABLES;
+        push_part(words, &mut phone.executables, slot, most, "executable")
     } else {
         let row = read_action(words, phone.table.len())?;
+        lines.actions.push(words.line);
         push_part(words, &mut phone.table, row, MOST_ACTIONS, "action")
     }
 }
@@ -659,7 +678,9 @@ fn push_part<T>(
     name: &str,
 ) -> Result<(), Wrong> {
     if parts.len() == most {
-        return words.wrong(format!("expected at most {most} {name} lines"));
+        return words.wrong(format!(
+            "expected at most {most} {name} lines, found one more"
+        ));
     }
     parts.push(part);
     Ok(())

@@ -293,7 +293,7 @@ fn errors_name_the_line_and_what_was_expected() {
     assert_eq!(wrong("\ncertificate free").0, 2);
     assert_eq!(
         wrong("phone mode 1 card none clock 1").1,
-        "expected at least one action line for this phone"
+        "expected at least one action line for this phone, found none"
     );
     assert_eq!(
         wrong("jump").1,

@@ -119,7 +119,8 @@ fn wrong(words: &str) -> (usize, String) {
 
 #[test]
 fn a_text_is_a_stream_or_a_timeline_and_never_both() {
-    let before = "expected an `at` line before this, since line 13 makes the text a timeline";
+    let before =
+        "expected an `at` line before this, since line 13 makes the text a timeline, found none";
     assert_eq!(
         wrong("card-out by device\nat 200\ncard-out by device"),
         (12, before.to_string())
@@ -129,21 +130,21 @@ fn a_text_is_a_stream_or_a_timeline_and_never_both() {
         wrong("timeline\ncard-out by device"),
         (
             13,
-            "expected an `at` line before this event of a timeline".into()
+            "expected an `at` line before this event of a timeline, found none".into()
         )
     );
     assert_eq!(
         wrong("at 100\ncard-out by device\ntimeline"),
         (
             14,
-            "expected one timeline line only, before all `at` lines".into()
+            "expected one timeline line only, before all `at` lines, found another one".into()
         )
     );
 }
 
 #[test]
 fn a_second_in_which_nothing_happens_cannot_be_said() {
-    let message = "expected an event behind this `at` line".to_string();
+    let message = "expected an event behind this `at` line, found none".to_string();
     assert_eq!(wrong("at 100"), (12, message.clone()));
     assert_eq!(
         wrong("at 100\n\nat 101\ncard-out by device"),
@@ -178,7 +179,7 @@ fn errors_name_the_line_and_what_was_expected() {
     );
     assert_eq!(
         wrong("at 100\ncertificate free\ncard-out by device").1,
-        "expected the parts of the phone before all events and bytes"
+        "expected the parts of the phone before all events and bytes, found `certificate` behind them"
     );
     assert_eq!(
         wrong("at 100\njump by device").1,
@@ -187,6 +188,9 @@ fn errors_name_the_line_and_what_was_expected() {
     let many = format!("at 100\n{}", "card-out by device\n".repeat(1001));
     assert_eq!(
         wrong(&many),
-        (12 + 1001, "expected at most 1000 events".into())
+        (
+            12 + 1001,
+            "expected at most 1000 events, found one more".into()
+        )
     );
 }

@@ -4,10 +4,11 @@
 //! the next `at`. A header that is not in form has no words and is in hex with all behind it; seconds
 //! and kinds that break the form have words, so that a lesson can show them.
 
-use super::{event_text, hex, hex_lines, image_part, put_together, read_event, Words, Wrong};
+use super::{event_text, hex, hex_lines, image_part, put_together, read_event};
+use super::{PlacedBytes, Words, Wrong};
 use crate::bench::split_stream;
 use crate::events::Event;
-use crate::timeline::{encode, laid_out, Record, MOST_RECORDS};
+use crate::timeline::{encode, laid_out, Header, Record, MOST_RECORDS};
 
 /// The text form of an image with a timeline behind it, whatever the bytes are.
 pub fn timeline_to_text(stream: &[u8]) -> String {
@@ -46,9 +47,13 @@ fn record_in_hex(record: &Record) -> String {
 /// A timeline of which the first line has been read.
 #[derive(Default)]
 pub(super) struct Timeline {
+    /// The line that made the text a timeline.
+    first_line: usize,
     records: Vec<Record>,
-    /// The second of the last `at` line.
-    second: Option<u32>,
+    /// Of each record, the line of its second and that of its event.
+    lines: Vec<(usize, usize)>,
+    /// The second of the last `at` line, and that line.
+    second: Option<(u32, usize)>,
     /// An `at` line with no event behind it yet.
     waiting: Option<usize>,
 }
@@ -61,11 +66,14 @@ impl Timeline {
 
     /// One line of the timeline; the first is any that says that the text is one.
     pub(super) fn read_line(&mut self, words: &mut Words, is_first: bool) -> Result<(), Wrong> {
+        if is_first {
+            self.first_line = words.line;
+        }
         match words.peek() {
             Some("timeline") if is_first => words.literal("timeline"),
-            Some("timeline") => {
-                words.wrong("expected one timeline line only, before all `at` lines".to_string())
-            }
+            Some("timeline") => words.wrong(
+                "expected one timeline line only, before all `at` lines, found another one".into(),
+            ),
             Some("at") => self.read_at(words),
             Some("record") => self.read_record(words),
             _ => self.read_event(words),
@@ -75,7 +83,7 @@ impl Timeline {
     fn read_at(&mut self, words: &mut Words) -> Result<(), Wrong> {
         self.check_not_waiting()?;
         words.literal("at")?;
-        self.second = Some(words.number("the second")?);
+        self.second = Some((words.number("the second")?, words.line));
         self.waiting = Some(words.line);
         Ok(())
     }
@@ -84,12 +92,13 @@ impl Timeline {
         words.literal("record")?;
         words.literal("bytes")?;
         let bytes = words.hex(Some(Record::SIZE))?;
-        self.push(words, Record::decode(&bytes))
+        self.push(words, Record::decode(&bytes), words.line)
     }
 
     fn read_event(&mut self, words: &mut Words) -> Result<(), Wrong> {
-        let Some(second) = self.second else {
-            return words.wrong("expected an `at` line before this event of a timeline".into());
+        let Some((second, at_line)) = self.second else {
+            return words
+                .wrong("expected an `at` line before this event of a timeline, found none".into());
         };
         let event = match words.take("bytes") {
             true => words.hex(Some(Event::SIZE))?,
@@ -101,31 +110,39 @@ impl Timeline {
             zero: 0,
             event,
         };
-        self.push(words, record)
+        self.push(words, record, at_line)
     }
 
-    fn push(&mut self, words: &Words, record: Record) -> Result<(), Wrong> {
+    fn push(&mut self, words: &Words, record: Record, second_line: usize) -> Result<(), Wrong> {
         if self.records.len() == MOST_RECORDS {
-            return words.wrong(format!("expected at most {MOST_RECORDS} events"));
+            return words.wrong(format!(
+                "expected at most {MOST_RECORDS} events, found one more"
+            ));
         }
         self.records.push(record);
+        self.lines.push((second_line, words.line));
         Ok(())
     }
 
     /// A second in which nothing happens cannot be said in a timeline.
-    fn check_not_waiting(&self) -> Result<(), Wrong> {
+    pub(super) fn check_not_waiting(&self) -> Result<(), Wrong> {
         match self.waiting {
             None => Ok(()),
             Some(line) => Err(Wrong {
                 line,
-                message: "expected an event behind this `at` line".to_string(),
+                message: "expected an event behind this `at` line, found none".to_string(),
             }),
         }
     }
 
-    /// The bytes, where the last line leaves nothing open.
-    pub(super) fn bytes(&self) -> Result<Vec<u8>, Wrong> {
-        self.check_not_waiting()?;
-        Ok(encode(&self.records))
+    /// The bytes, each with its line: of a record, the second and the event have their own.
+    pub(super) fn place_into(&self, placed: &mut PlacedBytes) {
+        placed.is_timeline = true;
+        placed.place(self.first_line, Header::SIZE);
+        for (second_line, event_line) in &self.lines {
+            placed.place(*second_line, Record::SIZE - Event::SIZE);
+            placed.place(*event_line, Event::SIZE);
+        }
+        placed.bytes.extend(encode(&self.records));
     }
 }
