@@ -13,10 +13,10 @@ use Rattle.records.specs.declared.Event.{Event}
 use Rattle.rules.specs.Words.{at, distinct, first-place}
 use Rattle.rules.specs.Codes.{has-id, certificate-named}
 use Rattle.rules.specs.Effects.{phone-operator-root, on-a-card, after-marking, mark-valid}
-use Rattle.rules.proofs.Slots.{set-is}
+use Rattle.laws.proofs.Slots.{set-is}
 use Rattle.rules.specs.AcceptedImage.{Accepted-image}
 use Rattle.handling.specs.Retiring.{outgoing, retire}
-use Rattle.rules.proofs.Tables.{certificates, says, framed-as}
+use Rattle.laws.proofs.Tables.{certificates, says, framed-as}
 use Rattle.handling.proofs.SlotWrites.{passes-there, find-there, write-is-change}
 
 -- ---- one certificate

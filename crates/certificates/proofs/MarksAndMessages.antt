@@ -12,7 +12,7 @@ use Rattle.rules.specs.Forms.{with-kind, new-certificate}
 use Rattle.rules.specs.Codes.{certificate-named}
 use Rattle.rules.specs.Effects.{effect, changed, install-certificate, on-a-card, mark-valid, enabled-by, message, delete-certificate, mark-invalid}
 use Rattle.rules.specs.Effects.{replaced, replace}
-use Rattle.rules.proofs.Accepted.{Accepted}
+use Rattle.laws.proofs.Accepted.{Accepted}
 use Rattle.chain.specs.Breaks.{disables}
 use Rattle.chain.specs.Settling.{settle-in}
 use Rattle.certificates.specs.StoredCertificate.{stored}

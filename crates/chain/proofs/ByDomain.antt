@@ -10,11 +10,11 @@ use lib.ListN.{length}
 use Rattle.records.specs.Phone.{Trust, Phone, executable-at, no-executable}
 use Rattle.records.specs.declared.Executable.{Executable}
 use Rattle.rules.specs.ImageRules.{i7, executable-slot-fits, chained-fits}
-use Rattle.rules.proofs.Promise.{executable-domain}
-use Rattle.rules.proofs.Fits.{executable-out}
-use Rattle.rules.proofs.Lists.{all-out}
-use Rattle.rules.proofs.Slots.{mem-at}
-use Rattle.rules.proofs.Tests.{tests}
+use Rattle.laws.proofs.Promise.{executable-domain}
+use Rattle.laws.proofs.Fits.{executable-out}
+use Rattle.laws.proofs.Lists.{all-out}
+use Rattle.laws.proofs.Slots.{mem-at}
+use Rattle.laws.proofs.Tests.{tests}
 use Rattle.chain.specs.SlotWords.{chained-in}
 
 known : (p : Phone) → T (i7 p) → (x : Executable) → List·Memᴰ x (p .executables) → x .domain ≤ 3

@@ -13,11 +13,11 @@ use Rattle.records.specs.declared.Certificate.{Certificate}
 use Rattle.rules.specs.declared.Chained.{Chained}
 use Rattle.rules.specs.Words.{any, find, least}
 use Rattle.rules.specs.Chains.{serves, good, most-links, within, chains-to, chain-domain, links, chain-of}
-use Rattle.rules.proofs.Tests.{tests, eq→eqb, neqb→ne}
-use Rattle.rules.proofs.Lists.{any-out, any-in, find-in}
-use Rattle.rules.proofs.Loops.{find-here, find-next, find-end}
-use Rattle.rules.proofs.Least.{least-small, least-passes, least-least}
-use Rattle.rules.proofs.Domain.{chain-domain-is, chain-found}
+use Rattle.laws.proofs.Tests.{tests, eq→eqb, neqb→ne}
+use Rattle.laws.proofs.Lists.{any-out, any-in, find-in}
+use Rattle.laws.proofs.Loops.{find-here, find-next, find-end}
+use Rattle.laws.proofs.Least.{least-small, least-passes, least-least}
+use Rattle.laws.proofs.Domain.{chain-domain-is, chain-found}
 use Rattle.chain.specs.SlotWords.{slot, holder}
 use Rattle.rules.specs.AcceptedImage.{Keyed}
 use Rattle.chain.proofs.Good.{good-up, serves-more}

@@ -10,8 +10,8 @@ use Rattle.records.specs.Phone.{Trust}
 use Rattle.records.specs.declared.Certificate.{Certificate}
 use Rattle.rules.specs.Words.{any}
 use Rattle.rules.specs.Chains.{trusted-root, link, serves, good}
-use Rattle.rules.proofs.Tests.{tests, or-cases, neqb→ne, by-test}
-use Rattle.rules.proofs.Lists.{any-out, any-in}
+use Rattle.laws.proofs.Tests.{tests, or-cases, neqb→ne, by-test}
+use Rattle.laws.proofs.Lists.{any-out, any-in}
 
 pub serves-more : (f g : Certificate → Bool) → ((c : Certificate) → T (f c) → T (g c)) → (d k : ℕ) (l : List Certificate)
     → T (any (serves f d k) l) → T (any (serves g d k) l)

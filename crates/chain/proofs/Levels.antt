@@ -19,10 +19,10 @@ use Rattle.bits.proofs.BitLaws.{or-set}
 use Rattle.bits.proofs.WordLaws.{any-nothing, word-lt, word-none, word-same, word-or, Built, built-none, built-skips, built-takes, built-all}
 use Rattle.rules.specs.Words.{any, least}
 use Rattle.rules.specs.Chains.{trusted-root, link, serves, good, most-links, within, links}
-use Rattle.rules.proofs.Tests.{tests, or-cases, eq→eqb, neqb→ne, same, eqb-turn}
-use Rattle.rules.proofs.Lists.{any-out, any-in}
-use Rattle.rules.proofs.Least.{least-small}
-use Rattle.rules.proofs.Loops.{any-rest, any-end}
+use Rattle.laws.proofs.Tests.{tests, or-cases, eq→eqb, neqb→ne, same, eqb-turn}
+use Rattle.laws.proofs.Lists.{any-out, any-in}
+use Rattle.laws.proofs.Least.{least-small}
+use Rattle.laws.proofs.Loops.{any-rest, any-end}
 use Rattle.chain.specs.declared.search.Level.{Level}
 use Rattle.chain.specs.SlotWords.{slot, rooted, linked, reach, verifiers, Level-of}
 use Rattle.chain.proofs.WordsAny.{any-none, any-same, any-or, word-any, Going, goes-to, some-here}

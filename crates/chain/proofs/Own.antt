@@ -11,10 +11,10 @@ use Rattle.rules.specs.Chains.{chains-to}
 use Rattle.rules.specs.Explicit.{Root, Issued}
 use Rattle.rules.specs.Codes.{has-id, certificate-named}
 use Rattle.rules.specs.Effects.{settle}
-use Rattle.rules.proofs.Accepted.{Accepted}
-use Rattle.rules.proofs.Changes.{at-cases}
-use Rattle.rules.proofs.Keys.{Key, by-root, by-issued}
-use Rattle.rules.proofs.Shortest.{chains-key, chains-signed, key-chains}
+use Rattle.laws.proofs.Accepted.{Accepted}
+use Rattle.laws.proofs.Changes.{at-cases}
+use Rattle.laws.proofs.Keys.{Key, by-root, by-issued}
+use Rattle.laws.proofs.Shortest.{chains-key, chains-signed, key-chains}
 use Rattle.keeping.proofs.Naming.{certificate-named-alone}
 use Rattle.chain.specs.Settling.{settle-in}
 use Rattle.chain.proofs.SettledInTurn.{settle-own}

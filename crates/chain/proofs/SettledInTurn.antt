@@ -15,10 +15,10 @@ use Rattle.chain.specs.Settling.{settled-in, settle-in, Next-unchained, 
 use Rattle.records.specs.Frame.{Framed}
 use Rattle.rules.specs.Chains.{chains-to}
 use Rattle.rules.specs.Effects.{settled, settle}
-use Rattle.rules.proofs.Accepts.{T-true}
-use Rattle.rules.proofs.Tests.{neqb→ne, by-test}
-use Rattle.rules.proofs.Tables.{executables, says, framed-as}
-use Rattle.rules.proofs.SlotSweeps.{Sweeping, sweep-goes-on, sweep-skips-to}
+use Rattle.laws.proofs.Accepts.{T-true}
+use Rattle.laws.proofs.Tests.{neqb→ne, by-test}
+use Rattle.laws.proofs.Tables.{executables, says, framed-as}
+use Rattle.laws.proofs.SlotSweeps.{Sweeping, sweep-goes-on, sweep-skips-to}
 
 -- an executable that does not chain loses its domain, and any other is not touched
 module _ (n : ℕ) (u : Trust) {x y : Executable} (q : x ≡ y) {b : Bool} (e : b ≡ chained-in n u x) where

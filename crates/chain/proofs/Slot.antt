@@ -9,9 +9,9 @@ use Rattle.records.specs.Phone.{Trust}
 use Rattle.records.specs.declared.Certificate.{Certificate}
 use Rattle.rules.specs.Words.{any, least}
 use Rattle.rules.specs.Chains.{trusted-root, link, serves, good}
-use Rattle.rules.proofs.Tests.{and-r, neqb→ne, ne→neqb, same}
-use Rattle.rules.proofs.Lists.{any-out}
-use Rattle.rules.proofs.Least.{least-small, least-passes, least-least}
+use Rattle.laws.proofs.Tests.{and-r, neqb→ne, ne→neqb, same}
+use Rattle.laws.proofs.Lists.{any-out}
+use Rattle.laws.proofs.Least.{least-small, least-passes, least-least}
 use Rattle.chain.specs.SlotWords.{reach}
 use Rattle.chain.proofs.Good.{serves-more, good-up}
 

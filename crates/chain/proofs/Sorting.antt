@@ -12,7 +12,7 @@ use Rattle.records.specs.declared.Certificate.{Certificate}
 use Rattle.bits.specs.Bits.{set-bit}
 use Rattle.bits.proofs.WordLaws.{Built, built-none, built-skips, built-takes, built-all}
 use Rattle.rules.specs.Chains.{valid-root, trusted-root, link}
-use Rattle.rules.proofs.Tests.{tests}
+use Rattle.laws.proofs.Tests.{tests}
 use Rattle.chain.specs.SlotWords.{slot, within-domain, Sorted-as}
 
 -- a link is issued, and no root

@@ -16,10 +16,10 @@ use Rattle.rules.specs.Forms.{new-certificate}
 use Rattle.rules.specs.Codes.{certificate-named}
 use Rattle.rules.specs.Effects.{settle, retired, phone-operator-root, marked-operator, card-rule, on-a-card, after-marking}
 use Rattle.rules.specs.Effects.{install-certificate, mark-valid, enabled-by, message}
-use Rattle.rules.proofs.Accepted.{Occupied, Accepted}
-use Rattle.rules.proofs.Tests.{tests, or-cases, eq→eqb, by-test}
-use Rattle.rules.proofs.Lists.{none-out}
-use Rattle.rules.proofs.Changes.{at-cases}
+use Rattle.laws.proofs.Accepted.{Occupied, Accepted}
+use Rattle.laws.proofs.Tests.{tests, or-cases, eq→eqb, by-test}
+use Rattle.laws.proofs.Lists.{none-out}
+use Rattle.laws.proofs.Changes.{at-cases}
 use Rattle.keeping.proofs.Order.{Fewer, fewer-chains}
 use Rattle.keeping.proofs.Narrowing.{Narrows, narrows-marked, narrows-refl, fewer-by, more-map}
 use Rattle.keeping.proofs.Narrowing.{more-filled, marking-widens}

@@ -8,7 +8,7 @@ use Rattle.records.specs.declared.Certificate.{Certificate}
 use Rattle.records.specs.declared.Event.{Event}
 use Rattle.rules.specs.Chains.{in-date, valid-root, trusted-root}
 use Rattle.rules.specs.Effects.{tick, effect, settle, changed}
-use Rattle.rules.proofs.Tests.{tests}
+use Rattle.laws.proofs.Tests.{tests}
 
 pub trusted-in-date : (t : Trust) (c : Certificate) → T (trusted-root (t .seen) c) → t .seen .clock ≤ c .expiry
 unfolding trusted-root valid-root in-date

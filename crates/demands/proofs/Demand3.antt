@@ -16,9 +16,9 @@ use Rattle.rules.specs.ImageRules.{accepted}
 use Rattle.rules.specs.Codes.{code-of}
 use Rattle.rules.specs.Step.{step, run}
 use Rattle.rules.specs.Demands.{request-event, verify-event, grants, withdrawing, giving}
-use Rattle.rules.proofs.Tests.{neqb→ne, or-cases, by-test}
-use Rattle.rules.proofs.Accepted.{Accepted}
-use Rattle.rules.proofs.Accepts.{accepted-out}
+use Rattle.laws.proofs.Tests.{neqb→ne, or-cases, by-test}
+use Rattle.laws.proofs.Accepted.{Accepted}
+use Rattle.laws.proofs.Accepts.{accepted-out}
 use Rattle.keeping.specs.OneEvent.{event-of}
 use Rattle.demands.specs.Runs.{is-request, Each-in-turn, Withdrawing-run, Giving-run, verified as image-verified}
 use Rattle.keeping.proofs.After.{after, after-all}

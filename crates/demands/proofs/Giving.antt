@@ -18,13 +18,13 @@ use Rattle.rules.specs.Forms.{with-kind, new-certificate, listed}
 use Rattle.rules.specs.Codes.{is-executable, certificate-named}
 use Rattle.rules.specs.Effects.{after-marking, enabled-by, effect}
 use Rattle.rules.specs.Demands.{giving}
-use Rattle.rules.proofs.Tests.{eq→eqb, neqb→ne, ne→neqb, by-test}
-use Rattle.rules.proofs.Lists.{fill-keeps}
-use Rattle.rules.proofs.Changes.{at-cases}
-use Rattle.rules.proofs.Accepted.{Accepted}
+use Rattle.laws.proofs.Tests.{eq→eqb, neqb→ne, ne→neqb, by-test}
+use Rattle.laws.proofs.Lists.{fill-keeps}
+use Rattle.laws.proofs.Changes.{at-cases}
+use Rattle.laws.proofs.Accepted.{Accepted}
 use Rattle.keeping.proofs.ByKind.{the-effects, by-kind}
 use Rattle.keeping.proofs.After.{after}
-use Rattle.rules.proofs.Domain.{chain-domain-is}
+use Rattle.laws.proofs.Domain.{chain-domain-is}
 use Rattle.keeping.proofs.Unrefused.{Unrefused}
 use Rattle.keeping.proofs.Done.{after-cases}
 use Rattle.keeping.proofs.Order.{Below, Under, fewer-refl, below-refl, over-itself, under-refl}

@@ -14,10 +14,10 @@ use Rattle.records.specs.declared.Executable.{Executable}
 use Rattle.rules.specs.Forms.{action-form}
 use Rattle.rules.specs.Codes.{executable-named, executable-known, table-byte, has-permission, code-of}
 use Rattle.rules.specs.Demands.{request-event}
-use Rattle.rules.proofs.Tests.{tests, by-test, nand, not-elim, not-intro, eq→eqb, neqb→ne}
-use Rattle.rules.proofs.TableRules.{row-at-small, row-at-least}
-use Rattle.rules.proofs.Accepted.{Accepted}
-use Rattle.rules.proofs.Shortest.{chains-signed, chains-chain}
+use Rattle.laws.proofs.Tests.{tests, by-test, nand, not-elim, not-intro, eq→eqb, neqb→ne}
+use Rattle.laws.proofs.TableRules.{row-at-small, row-at-least}
+use Rattle.laws.proofs.Accepted.{Accepted}
+use Rattle.laws.proofs.Shortest.{chains-signed, chains-chain}
 use Rattle.demands.specs.Runs.{Granted}
 use Rattle.keeping.proofs.Unrefused.{Unrefused, unrefused}
 use Rattle.keeping.proofs.Naming.{known-executable, the-executable, small-domain}

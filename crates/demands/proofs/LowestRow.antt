@@ -7,7 +7,7 @@ use mathlib.Core.Path.{refl}
 use native.Mathlib.Omega.{arith}
 use lib.Dec.{T, leb, leb→le}
 use Rattle.rules.specs.Words.{Check, _⇒_, first}
-use Rattle.rules.proofs.Tests.{and-l, and-r}
+use Rattle.laws.proofs.Tests.{and-l, and-r}
 use Rattle.demands.specs.Runs.{Applies, here, later}
 
 pub first-applies : (l : List Check) → first l ≢ 0 → Applies (first l) l

@@ -20,10 +20,10 @@ use Rattle.rules.specs.Codes.{certificate-named, subject, recovery-named, id-un
 use Rattle.rules.specs.Forms.{forms, no-form, with-kind}
 use Rattle.rules.specs.Effects.{phone-operator-root, on-a-card, changed}
 use Rattle.rules.specs.Step.{step}
-use Rattle.rules.proofs.Tests.{tests, and-l, and-r, or-cases, not-elim, nor-l}
-use Rattle.rules.proofs.Accepts.{T-true}
-use Rattle.rules.proofs.Accepted.{Occupied, Held, Kept}
-use Rattle.rules.proofs.Slots.{at-each}
+use Rattle.laws.proofs.Tests.{tests, and-l, and-r, or-cases, not-elim, nor-l}
+use Rattle.laws.proofs.Accepts.{T-true}
+use Rattle.laws.proofs.Accepted.{Occupied, Held, Kept}
+use Rattle.laws.proofs.Slots.{at-each}
 use Rattle.keeping.proofs.Unrefused.{Unrefused, unrefused, owned-formed}
 use Rattle.keeping.proofs.Naming.{certificate-named-is, certificate-named-alone}
 use Rattle.demands.specs.MayTouch.{Certificate-kept}

@@ -17,8 +17,8 @@ use Rattle.rules.specs.Codes.{certificate-named}
 use Rattle.rules.specs.Effects.{phone-operator-root, on-a-card, enabled-by, new-executable, replaced}
 use Rattle.rules.specs.Computing.{computing}
 use Rattle.rules.specs.WorkedRun.{image}
-use Rattle.rules.proofs.Tests.{tests, eq→eqb, and-i, or-i, or-j}
-use Rattle.rules.proofs.Lists.{all-out}
+use Rattle.laws.proofs.Tests.{tests, eq→eqb, and-i, or-i, or-j}
+use Rattle.laws.proofs.Lists.{all-out}
 use Rattle.demands.specs.Runs.{Valid-operator}
 use Rattle.demands.specs.MayTouch.{Certificate-kept, Up-to-settling, Executable-kept}
 

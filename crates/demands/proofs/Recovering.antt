@@ -18,11 +18,11 @@ use Rattle.rules.specs.Forms.{with-kind, forms, no-form}
 use Rattle.rules.specs.Actors.{by-domain, may-act, acts-for}
 use Rattle.rules.specs.Codes.{has-id, certificate-named, recovery-named, subject, actor-barred, no-such-root, may-replace, cannot-replace, code-of}
 use Rattle.rules.specs.Effects.{replaced, replace, effect, settle, changed}
-use Rattle.rules.proofs.Tests.{tests, and-l, and-r, nor-l, or-cases, not-elim}
+use Rattle.laws.proofs.Tests.{tests, and-l, and-r, nor-l, or-cases, not-elim}
 use Rattle.rules.specs.Demands.{withdrawing, giving}
-use Rattle.rules.proofs.Changes.{map-at}
-use Rattle.rules.proofs.Accepts.{T-true}
-use Rattle.rules.proofs.Accepted.{Occupied, Accepted}
+use Rattle.laws.proofs.Changes.{map-at}
+use Rattle.laws.proofs.Accepts.{T-true}
+use Rattle.laws.proofs.Accepted.{Occupied, Accepted}
 use Rattle.keeping.proofs.Unrefused.{Unrefused, unrefused, replace-formed, replaceable}
 use Rattle.demands.specs.RecoveryKeys.{Recovery-fits, Replaces}
 

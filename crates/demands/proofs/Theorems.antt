@@ -31,11 +31,11 @@ use Rattle.rules.specs.Codes.{has-id, makes-valid, certificate-named, executabl
 use Rattle.rules.specs.Effects.{replaced, changed}
 use Rattle.rules.specs.Step.{refused-at, refusal, step, run}
 use Rattle.rules.specs.Demands.{grants, withdrawing, giving}
-use Rattle.rules.proofs.Tests.{eq→eqb}
-use Rattle.rules.proofs.Accepts.{accepted-out}
-use Rattle.rules.proofs.Shortest.{chain-chains}
-use Rattle.rules.proofs.Domain as Domain
-use Rattle.rules.proofs.Where as Where
+use Rattle.laws.proofs.Tests.{eq→eqb}
+use Rattle.laws.proofs.Accepts.{accepted-out}
+use Rattle.laws.proofs.Shortest.{chain-chains}
+use Rattle.laws.proofs.Domain as Domain
+use Rattle.laws.proofs.Where as Where
 use Rattle.demands.specs.Runs.{Applies, Withdrawing-run, Giving-run, verified, Valid-operator, Granted}
 use Rattle.keeping.specs.OneEvent.{event-of, key-named, phone-after}
 use Rattle.demands.specs.MayTouch.{Framed-change}

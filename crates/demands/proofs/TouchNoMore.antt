@@ -17,8 +17,8 @@ use Rattle.rules.specs.Forms.{with-kind}
 use Rattle.rules.specs.Codes.{has-id, is-executable, certificate-named, code-of}
 use Rattle.rules.specs.Effects.{phone-operator-root, retired, card-rule, card-in, card-out, power-up, on-a-card, after-marking, mark-valid}
 use Rattle.rules.specs.Effects.{replaced, effect, settled, settle, changed}
-use Rattle.rules.proofs.Tests.{tests}
-use Rattle.rules.proofs.Changes.{at-cases, map-at, change-at, fill-at}
+use Rattle.laws.proofs.Tests.{tests}
+use Rattle.laws.proofs.Changes.{at-cases, map-at, change-at, fill-at}
 use Rattle.demands.specs.MayTouch.{Certificate-kept, Up-to-settling, Executable-kept, Framed-change}
 use Rattle.keeping.proofs.ByKind.{the-effects, by-kind}
 use Rattle.keeping.proofs.Unrefused.{unrefused}

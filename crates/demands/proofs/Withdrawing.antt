@@ -19,8 +19,8 @@ use Rattle.rules.specs.Forms.{with-kind, listed}
 use Rattle.rules.specs.Codes.{has-id, is-executable, time-back}
 use Rattle.rules.specs.Effects.{enabled-by, effect, settle}
 use Rattle.rules.specs.Demands.{withdrawing}
-use Rattle.rules.proofs.Tests.{eq→eqb, neqb→ne, by-test}
-use Rattle.rules.proofs.Changes.{at-cases}
+use Rattle.laws.proofs.Tests.{eq→eqb, neqb→ne, by-test}
+use Rattle.laws.proofs.Changes.{at-cases}
 use Rattle.keeping.proofs.ByKind.{the-effects, by-withdrawing}
 use Rattle.keeping.proofs.After.{after}
 use Rattle.keeping.proofs.Unrefused.{Unrefused}

@@ -8,8 +8,8 @@ use Rattle.rules.specs.Words.{any}
 use Rattle.rules.specs.Forms.{with-kind}
 use Rattle.rules.specs.Codes.{code-of, card-wrong}
 use Rattle.rules.specs.Effects.{marked-operator, effect, changed, settle, card-rule, card-in, tick, power-up, card-out}
-use Rattle.rules.proofs.Accepted.{Accepted}
-use Rattle.rules.proofs.Tests.{eq→eqb}
+use Rattle.laws.proofs.Accepted.{Accepted}
+use Rattle.laws.proofs.Tests.{eq→eqb}
 use Rattle.keeping.proofs.Unrefused.{unrefused}
 use Rattle.chain.specs.Breaks.{runs-out}
 use Rattle.chain.proofs.Still.{later-still, rule-idle, come-still}

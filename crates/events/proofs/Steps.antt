@@ -23,10 +23,10 @@ use Rattle.rules.specs.Forms.{with-kind, forms, no-form, malformed}
 use Rattle.rules.specs.Codes.{code-of, code}
 use Rattle.rules.specs.Effects.{changed}
 use Rattle.rules.specs.Step.{Outcome, refused, refused-at, refusal, done, step}
-use Rattle.rules.proofs.Accepts.{accepted-out}
+use Rattle.laws.proofs.Accepts.{accepted-out}
 use Rattle.keeping.proofs.Bytes.{code-whole, step-refused, accepted-step, refusal-cases, never-one}
 use Rattle.rules.specs.AcceptedImage.{Accepted-image}
-use Rattle.rules.proofs.Promise.{accepted-image}
+use Rattle.laws.proofs.Promise.{accepted-image}
 use Rattle.events.specs.Stepped.{Stepped, Stepped-accepted}
 use Rattle.handling.specs.Handled.{told, left, Handled}
 use Rattle.handling.proofs.Handles.{handled-refused}

@@ -1,6 +1,6 @@
 -- The rows of the table of codes that matter for events about executables. Assumes nothing.
 use Prim.Native.Nat.{ℕ, _<_}
-use mathlib.Core.Bool.{not, and-true, or-false}
+use mathlib.Core.Bool.{Bool, true, false, not, and-true, or-false}
 use mathlib.Core.List.{List, [], _∷_, _++_}
 use mathlib.Core.Path.{_≡_, ap, _∙_}
 use Rattle.records.specs.Phone.{Phone}
@@ -14,6 +14,7 @@ use Rattle.handling.specs.Plans.{executable-rows}
 use Rattle.handling.proofs.CodeRows.{Gives, gives}
 use Rattle.handling.proofs.TheTable.{the-table, small-actor}
 use Rattle.executables.specs.TableRows.{table-rows}
+use Rattle.executables.specs.Acting.{permission-kind}
 
 abbrev pub install-executable-rows : Phone → Event → List Check
 install-executable-rows p e =
@@ -42,13 +43,10 @@ module _ (p : Phone) (e : Event) (a : e .actor < 5) where
   unfolding the-table
   verify-told = simp (small-actor e a, and-true, or-false)
 
-  pub give-told : first ((not (action-form p e) ⇒ 2) ∷ executable-rows 13 p e) ≡ code-of p (with-kind 13 e)
+  pub permit-told : (given : Bool) → let k = permission-kind given in first ((not (action-form p e) ⇒ 2) ∷ executable-rows k p e) ≡ code-of p (with-kind k e)
   unfolding the-table
-  give-told = simp (small-actor e a, and-true, or-false)
-
-  pub withdraw-told : first ((not (action-form p e) ⇒ 2) ∷ executable-rows 14 p e) ≡ code-of p (with-kind 14 e)
-  unfolding the-table
-  withdraw-told = simp (small-actor e a, and-true, or-false)
+  permit-told true = simp (small-actor e a, and-true, or-false)
+  permit-told false = simp (small-actor e a, and-true, or-false)
 
   named-told : first (request-rows p e (executable-named p (e .id))) ≡ code-of p (with-kind 15 e)
   unfolding the-table

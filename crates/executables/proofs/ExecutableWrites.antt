@@ -3,17 +3,16 @@ use Prim.Native.Nat.{ℕ, _<_}
 use mathlib.Core.List.{List}
 use mathlib.Core.Path.{_≡_, ap, _∙_}
 use lib.ListN.{length, set}
-use Rattle.bits.specs.Bits.{set-bit, clear-bit}
 use Rattle.records.specs.Phone.{in-domain, permitted, with-executables, decode, encode, executable-at}
 use Rattle.records.specs.declared.Executable.{Executable}
 use Rattle.records.specs.declared.Event.{Event}
 use Rattle.rules.specs.declared.Chained.{Chained}
 use Rattle.rules.specs.AcceptedImage.{Accepted-image}
-use Rattle.rules.specs.Words.{change, first-place}
+use Rattle.rules.specs.Words.{first-place}
 use Rattle.rules.specs.Chains.{chain-of}
 use Rattle.rules.specs.Codes.{is-executable}
-use Rattle.rules.specs.Effects.{verify, give, withdraw}
-use Rattle.rules.proofs.Tables.{executables}
+use Rattle.rules.specs.Effects.{verify, permit}
+use Rattle.laws.proofs.Tables.{executables}
 use Rattle.handling.proofs.SlotWrites.{write-is-change}
 
 -- y is written in a slot
@@ -32,18 +31,10 @@ module _ {l l′ : List ℕ} {slot : ℕ} (e : Event) (a : Accepted-image l) (at
       write-is-change executables (e .id) (λ y. in-domain (chain-of t (y .signing) .domain) y) a at h n
       (ap (λ r. in-domain (r .domain) (executable-at (decode l) slot)) told) w
 
-  permissions-written : (g : ℕ → ℕ) {m : ℕ} → m ≡ g (x .permissions) → Written l l′ slot (permitted m (executable-at (decode l) slot))
-      → l′ ≡ encode (with-executables (change (is-executable (e .id)) (λ y. permitted (g (y .permissions)) y) (decode l .executables)) (decode l))
-  permissions-written g q w =
+  pub permissions-written : (write : ℕ → ℕ → ℕ) {m : ℕ} → m ≡ write (x .permissions) (e .second)
+      → Written l l′ slot (permitted m (executable-at (decode l) slot)) → l′ ≡ encode (permit write e (decode l))
+  unfolding permit
+  permissions-written write q w =
+      let g : ℕ → ℕ = λ m. write m (e .second) in
       let told = q ∙ ap (λ y. g (y .permissions)) read in
       write-is-change executables (e .id) (λ y. permitted (g (y .permissions)) y) a at h n (ap (λ m. permitted m (executable-at (decode l) slot)) told) w
-
-  pub permission-given : {m : ℕ} → m ≡ set-bit (x .permissions) (e .second) → Written l l′ slot (permitted m (executable-at (decode l) slot))
-      → l′ ≡ encode (give e (decode l))
-  unfolding give
-  permission-given q w = permissions-written (λ m. set-bit m (e .second)) q w
-
-  pub permission-withdrawn : {m : ℕ} → m ≡ clear-bit (x .permissions) (e .second) → Written l l′ slot (permitted m (executable-at (decode l) slot))
-      → l′ ≡ encode (withdraw e (decode l))
-  unfolding withdraw
-  permission-withdrawn q w = permissions-written (λ m. clear-bit m (e .second)) q w

@@ -1,5 +1,6 @@
 -- An event about executables that is done: what its writer asks, and that what it wrote and told is what the rules say. Assumes nothing.
 use Prim.Native.Nat.{ℕ, _<_}
+use mathlib.Core.Bool.{Bool, true, false}
 use mathlib.Core.List.{List}
 use mathlib.Core.Path.{_≡_, sym, ap, _∙_}
 use lib.ListN.{length}
@@ -10,14 +11,15 @@ use Rattle.rules.specs.declared.Answer.{Answer}
 use Rattle.rules.specs.declared.Chained.{Chained}
 use Rattle.rules.specs.Chains.{links, chain-of}
 use Rattle.rules.specs.Forms.{with-kind}
-use Rattle.rules.specs.Effects.{effect, install-executable, delete-executable, verify, give, withdraw}
+use Rattle.rules.specs.Effects.{effect, install-executable, delete-executable, verify, permit}
 use Rattle.rules.specs.Step.{answer-done, done}
 use Rattle.handling.specs.Handled.{Handled}
+use Rattle.executables.specs.Acting.{permission-kind, permission-write}
 use Rattle.keeping.proofs.Unrefused.{id-formed}
 use Rattle.handling.proofs.Handles.{handled-done, handled-still, accepted-phone, named-id, acted-id, acted-action}
 use Rattle.executables.proofs.ActsOnExecutable.{Acts}
 use Rattle.executables.proofs.Tells.{verify-tells, request-tells}
-use Rattle.executables.proofs.Untouched.{install-still, delete-still, verify-still, give-still, withdraw-still, request-unchanged}
+use Rattle.executables.proofs.Untouched.{install-still, delete-still, verify-still, permit-still, request-unchanged}
 
 module _ {l : List ℕ} {e : Event} {i : ℕ} where
   -- it names an id, and an action of the table
@@ -27,11 +29,9 @@ module _ {l : List ℕ} {e : Event} {i : ℕ} where
   pub verify-asks : Acts 12 (e .id) l e i → 0 < e .id
   verify-asks a = named-id (decode l) e 12 (a .code) (id-formed (decode l) (with-kind 12 e))
 
-  pub give-asks : Acts 13 (e .id) l e i → (0 < e .id) × (e .second < length (decode l .table))
-  give-asks a = (acted-id (decode l) e 13 (a .code) (λ h. h), acted-action (decode l) e 13 (a .code) (λ h. h))
-
-  pub withdraw-asks : Acts 14 (e .id) l e i → (0 < e .id) × (e .second < length (decode l .table))
-  withdraw-asks a = (acted-id (decode l) e 14 (a .code) (λ h. h), acted-action (decode l) e 14 (a .code) (λ h. h))
+  pub permit-asks : (given : Bool) → Acts (permission-kind given) (e .id) l e i → (0 < e .id) × (e .second < length (decode l .table))
+  permit-asks true a = (acted-id (decode l) e 13 (a .code) (λ h. h), acted-action (decode l) e 13 (a .code) (λ h. h))
+  permit-asks false a = (acted-id (decode l) e 14 (a .code) (λ h. h), acted-action (decode l) e 14 (a .code) (λ h. h))
 
   -- l′ is what is written, and x what is told
   module _ {x : Answer} {l′ : List ℕ} where
@@ -50,13 +50,11 @@ module _ {l : List ℕ} {e : Event} {i : ℕ} where
         let ok = accepted-phone l (a .accepted) in
         handled-still (a .code) (verify-still (decode l) ok e) (q ∙ verify-tells (decode l) ok e (a .place) (a .within) told) w
 
-    pub give-done : Acts 13 (e .id) l e i → x ≡ answer-done 0 0 → l′ ≡ encode (give e (decode l)) → Handled l (with-kind 13 e) x l′
-    unfolding effect give done
-    give-done a q w = handled-still (a .code) (give-still (decode l) (accepted-phone l (a .accepted)) e) q w
-
-    pub withdraw-done : Acts 14 (e .id) l e i → x ≡ answer-done 0 0 → l′ ≡ encode (withdraw e (decode l)) → Handled l (with-kind 14 e) x l′
-    unfolding effect withdraw done
-    withdraw-done a q w = handled-still (a .code) (withdraw-still (decode l) (accepted-phone l (a .accepted)) e) q w
+    pub permit-done : (given : Bool) → Acts (permission-kind given) (e .id) l e i → x ≡ answer-done 0 0
+        → l′ ≡ encode (permit (permission-write given) e (decode l)) → Handled l (with-kind (permission-kind given) e) x l′
+    unfolding effect permit done
+    permit-done true a q w = handled-still (a .code) (permit-still (decode l) (accepted-phone l (a .accepted)) e true) q w
+    permit-done false a q w = handled-still (a .code) (permit-still (decode l) (accepted-phone l (a .accepted)) e false) q w
 
   -- a request leaves the image, which is that of the phone that it says
   pub request-done : Acts 15 (e .id) l e i → {y : Executable} → y ≡ executable-at (decode l) i → {n : ℕ} → n ≡ links (decode l .trust) (y .signing) (y .domain)

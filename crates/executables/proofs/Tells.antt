@@ -13,12 +13,12 @@ use Rattle.rules.specs.Forms.{with-kind}
 use Rattle.rules.specs.Codes.{is-executable, executable-named, executable-known}
 use Rattle.rules.specs.Effects.{changed}
 use Rattle.rules.specs.Step.{answer-done, done}
-use Rattle.rules.proofs.Accepted.{Accepted}
-use Rattle.rules.proofs.Accepts.{true-T}
+use Rattle.laws.proofs.Accepted.{Accepted}
+use Rattle.laws.proofs.Accepts.{true-T}
 use Rattle.keeping.proofs.Heard.{named-verified}
 use Rattle.keeping.proofs.Verified.{verdict, one-verified, verify-changed}
 use Rattle.rules.specs.Words.{first-place}
-use Rattle.rules.proofs.Places.{place-some}
+use Rattle.laws.proofs.Places.{place-some}
 use Rattle.handling.proofs.Named.{executable-here}
 use Rattle.executables.proofs.Untouched.{request-unchanged}
 

@@ -1,5 +1,6 @@
 -- Kinds 10 to 15 touch no chain: after their effect there is nothing to settle. Assumes nothing.
-use mathlib.Core.Bool.{Bool}
+use Prim.Native.Nat.{ℕ}
+use mathlib.Core.Bool.{Bool, true, false}
 use mathlib.Core.List.{List·Memᴰ, Memᴰ·of-map}
 use mathlib.Core.Logic.{_≢_, _⊎_, inl, inr}
 use mathlib.Core.Path.{_≡_, refl, sym, subst, _∙_}
@@ -12,10 +13,11 @@ use Rattle.rules.specs.Words.{at, fill, change}
 use Rattle.rules.specs.Chains.{chains-to}
 use Rattle.rules.specs.Forms.{with-kind}
 use Rattle.rules.specs.Codes.{is-executable}
-use Rattle.rules.specs.Effects.{effect, changed, install-executable, delete-executable, give, withdraw}
-use Rattle.rules.proofs.Accepted.{Accepted}
-use Rattle.rules.proofs.Lists.{fill-out}
-use Rattle.rules.proofs.Changes.{at-cases}
+use Rattle.rules.specs.Effects.{effect, settle, changed, install-executable, delete-executable, permit}
+use Rattle.executables.specs.Acting.{permission-kind}
+use Rattle.laws.proofs.Accepted.{Accepted}
+use Rattle.laws.proofs.Lists.{fill-out}
+use Rattle.laws.proofs.Changes.{at-cases}
 use Rattle.keeping.proofs.Settle.{settle-still, request-changed}
 use Rattle.keeping.proofs.Verified.{verify-effect, verify-changed}
 
@@ -52,14 +54,15 @@ module _ (p : Phone) (ok : Accepted p) where
     pub verify-still : changed (with-kind 12 e) p ≡ effect (with-kind 12 e) p
     verify-still = verify-changed p (with-kind 12 e) ok refl ∙ sym (verify-effect p (with-kind 12 e) refl)
 
-    pub give-still : changed (with-kind 13 e) p ≡ effect (with-kind 13 e) p
-    unfolding Chained changed effect give
-    give-still = settle-still (give e p) (changed-chained (is-executable (e .id)) (λ x. permitted (set-bit (x .permissions) (e .second)) x) (λ x c. c))
+    still-permitted : (write : ℕ → ℕ → ℕ) → settle (permit write e p) ≡ permit write e p
+    unfolding Chained permit
+    still-permitted write =
+        settle-still (permit write e p) (changed-chained (is-executable (e .id)) (λ x. permitted (write (x .permissions) (e .second)) x) (λ x c. c))
 
-    pub withdraw-still : changed (with-kind 14 e) p ≡ effect (with-kind 14 e) p
-    unfolding Chained changed effect withdraw
-    withdraw-still =
-        settle-still (withdraw e p) (changed-chained (is-executable (e .id)) (λ x. permitted (clear-bit (x .permissions) (e .second)) x) (λ x c. c))
+    pub permit-still : (given : Bool) → let k = permission-kind given in changed (with-kind k e) p ≡ effect (with-kind k e) p
+    unfolding changed effect permit
+    permit-still true = still-permitted set-bit
+    permit-still false = still-permitted clear-bit
 
     pub request-unchanged : changed (with-kind 15 e) p ≡ p
     request-unchanged = request-changed p ok (with-kind 15 e) refl

@@ -7,13 +7,14 @@ use rules::Chained;
 ghost use Prim.Native.Nat.{_<_};
 ghost use lib.ListN.{length};
 ghost use mathlib.Core.Path.{_≡_};
+ghost use Rattle.bits.specs.Bits.{set-bit, clear-bit};
 ghost use Rattle.executables.specs.Acting.{chained-at};
 ghost use Rattle.rules.specs.Words.{first-place};
 ghost use Rattle.rules.specs.AcceptedImage.{Accepted-image};
 ghost use Rattle.records.specs.Frame.{Framed};
 ghost use Rattle.records.specs.Phone.{decode, encode};
 ghost use Rattle.rules.specs.Codes.{is-executable};
-ghost use Rattle.rules.specs.Effects.{delete-executable, give, install-executable, verify, withdraw};
+ghost use Rattle.rules.specs.Effects.{delete-executable, install-executable, permit, verify};
 
 // 10 install executable
 pub fn install_executable(s: &mut [u8], e: Event, slot: usize)
@@ -62,7 +63,7 @@ pub fn give(s: &mut [u8], e: Event, slot: usize)
     requires { ⌜ slot ≡ first-place (is-executable (e .id)) (decode (now s) .executables) ⌝ }
     requires { ⌜ slot < length (decode (now s) .executables) ⌝ }
     requires { ⌜ (0 < e .id) × (e .second < length (decode (now s) .table)) ⌝ }
-    ensures { λ _. ⌜ now (s .exit) ≡ encode (give e (decode (now (s .entry)))) ⌝ }
+    ensures { λ _. ⌜ now (s .exit) ≡ encode (permit set-bit e (decode (now (s .entry)))) ⌝ }
 {
     let x = image::executable(s, slot);
     let w = bits::set_bit(x.permissions, e.second as u32);
@@ -75,7 +76,7 @@ pub fn withdraw(s: &mut [u8], e: Event, slot: usize)
     requires { ⌜ slot ≡ first-place (is-executable (e .id)) (decode (now s) .executables) ⌝ }
     requires { ⌜ slot < length (decode (now s) .executables) ⌝ }
     requires { ⌜ (0 < e .id) × (e .second < length (decode (now s) .table)) ⌝ }
-    ensures { λ _. ⌜ now (s .exit) ≡ encode (withdraw e (decode (now (s .entry)))) ⌝ }
+    ensures { λ _. ⌜ now (s .exit) ≡ encode (permit clear-bit e (decode (now (s .entry)))) ⌝ }
 {
     let x = image::executable(s, slot);
     let w = bits::clear_bit(x.permissions, e.second as u32);

@@ -8,7 +8,7 @@ use native.Mathlib.Omega.{arith}
 use lib.Dec.{T, T-not, eqb, ltb, ltb→lt, lt→ltb, nltb→le, not-T, eqb→eq}
 use lib.ListN.{length}
 use Rattle.records.specs.declared.Certificate.{Certificate}
-use Rattle.rules.proofs.Tests.{tests, neqb→ne, and-i, by-test}
+use Rattle.laws.proofs.Tests.{tests, neqb→ne, and-i, by-test}
 use Rattle.explanations.specs.Why.{lowest, by-id}
 use Rattle.explanations.specs.Claims.{count, Rising}
 use Rattle.explanations.proofs.LowestId.{cond-cases, Found, lowest-found, lowest-least}

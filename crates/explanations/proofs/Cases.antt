@@ -11,13 +11,13 @@ use Rattle.records.specs.declared.Certificate.{Certificate}
 use Rattle.rules.specs.Words.{any}
 use Rattle.rules.specs.Chains.{chains-to, chain-domain, most-links}
 use Rattle.rules.specs.Explicit.{Chain, ends, goes-on, Chain-within}
-use Rattle.rules.proofs.Tests.{eq→eqb, neqb→ne, ne→neqb, not-elim}
-use Rattle.rules.proofs.Lists.{any-in}
-use Rattle.rules.proofs.Shortest.{chains-signed, chains-chain, chain-chains}
-use Rattle.rules.proofs.Domain.{chain-found, chain-domain-is}
+use Rattle.laws.proofs.Tests.{eq→eqb, neqb→ne, ne→neqb, not-elim}
+use Rattle.laws.proofs.Lists.{any-in}
+use Rattle.laws.proofs.Shortest.{chains-signed, chains-chain, chain-chains}
+use Rattle.laws.proofs.Domain.{chain-found, chain-domain-is}
 use native.Mathlib.Omega.{arith}
 use Rattle.records.specs.declared.Card.{Card}
-use Rattle.rules.proofs.Accepted.{Held}
+use Rattle.laws.proofs.Accepted.{Held}
 use Rattle.explanations.proofs.Reasons.{occupied}
 use Rattle.explanations.specs.Why.{Line, has-key, its-domain, unsigned-line, unheld-line, chained, unsigned, held, chain-lines, reason-lines, explained}
 use Rattle.explanations.specs.Claims.{count, cases}

@@ -13,12 +13,12 @@ use Rattle.records.specs.declared.Certificate.{Certificate}
 use Rattle.rules.specs.Words.{least}
 use Rattle.rules.specs.Chains.{trusted-root, link, serves, good, within, chains-to, links, most-links}
 use Rattle.rules.specs.Explicit.{Chain, ends, goes-on, Shortest}
-use Rattle.rules.proofs.Tests.{tests, or-cases, by-test}
-use Rattle.rules.proofs.Lists.{any-in, any-out}
-use Rattle.rules.proofs.Least.{least-small, least-passes, least-least}
-use Rattle.rules.proofs.Keys.{served}
-use Rattle.rules.proofs.Accepted.{Held}
-use Rattle.rules.proofs.Shortest.{chains-signed, chains-chain, links-small, links-shortest, links-none}
+use Rattle.laws.proofs.Tests.{tests, or-cases, by-test}
+use Rattle.laws.proofs.Lists.{any-in, any-out}
+use Rattle.laws.proofs.Least.{least-small, least-passes, least-least}
+use Rattle.laws.proofs.Keys.{served}
+use Rattle.laws.proofs.Accepted.{Held}
+use Rattle.laws.proofs.Shortest.{chains-signed, chains-chain, links-small, links-shortest, links-none}
 use Rattle.explanations.specs.Why.{lowest, climb, chain-told}
 use Rattle.explanations.specs.Claims.{Lowest-each}
 use Rattle.explanations.proofs.LowestId.{cond-cases, lowest-found, lowest-least}

@@ -10,10 +10,10 @@ use Rattle.records.specs.declared.Card.{Card}
 use Rattle.records.specs.declared.Certificate.{Certificate}
 use Rattle.rules.specs.Chains.{good, links}
 use Rattle.rules.specs.Explicit.{Root, Issued, Chain, ends, goes-on}
-use Rattle.rules.proofs.Tests.{tests}
-use Rattle.rules.proofs.Distinct.{alone}
-use Rattle.rules.proofs.Keys.{served}
-use Rattle.rules.proofs.Accepted.{Held}
+use Rattle.laws.proofs.Tests.{tests}
+use Rattle.laws.proofs.Distinct.{alone}
+use Rattle.laws.proofs.Keys.{served}
+use Rattle.laws.proofs.Accepted.{Held}
 use Rattle.explanations.specs.Why.{climb, chain-told}
 use Rattle.explanations.specs.Claims.{Not-after}
 use Rattle.explanations.proofs.Climb.{choice, Serving, served-by, choice-least, choice-serves}

@@ -9,9 +9,9 @@ use lib.Dec.{eqb→eq}
 use Rattle.records.specs.Phone.{Trust}
 use Rattle.records.specs.declared.Card.{Card}
 use Rattle.records.specs.declared.Certificate.{Certificate}
-use Rattle.rules.proofs.Tests.{eq→eqb}
-use Rattle.rules.proofs.Distinct.{alone}
-use Rattle.rules.proofs.Accepted.{Held}
+use Rattle.laws.proofs.Tests.{eq→eqb}
+use Rattle.laws.proofs.Distinct.{alone}
+use Rattle.laws.proofs.Accepted.{Held}
 use Rattle.explanations.specs.Why.{has-key, holders}
 use Rattle.explanations.specs.Claims.{Rising}
 use Rattle.explanations.proofs.ById.{by-id-rising, by-id-small, by-id-found, by-id-all}

@@ -9,9 +9,9 @@ use Rattle.records.specs.Phone.{Trust}
 use Rattle.records.specs.declared.Card.{Card}
 use Rattle.records.specs.declared.Executable.{Executable}
 use Rattle.rules.specs.Chains.{most-links}
-use Rattle.rules.proofs.Tests.{neqb→ne}
-use Rattle.rules.proofs.Lists.{any-out}
-use Rattle.rules.proofs.Accepted.{Held}
+use Rattle.laws.proofs.Tests.{neqb→ne}
+use Rattle.laws.proofs.Lists.{any-out}
+use Rattle.laws.proofs.Accepted.{Held}
 use Rattle.explanations.specs.Why.{has-key, holders, its-domain, untrusted-line, chained, unsigned, held, despite, chain-lines, explained}
 use Rattle.explanations.proofs.LowestId.{cond-cases}
 use Rattle.explanations.proofs.Holders.{holders-few, holders-in}

@@ -7,7 +7,7 @@ use mathlib.Core.Path.{_≡_, refl, ap, subst}
 use native.Mathlib.Omega.{arith}
 use lib.Dec.{T, eqb, ltb, ltb→lt, lt→ltb, nltb→le, eqb→eq}
 use Rattle.records.specs.declared.Certificate.{Certificate}
-use Rattle.rules.proofs.Tests.{tests, neqb→ne, and-i, or-cases, nand, nor-l, nor-r}
+use Rattle.laws.proofs.Tests.{tests, neqb→ne, and-i, or-cases, nand, nor-l, nor-r}
 use Rattle.explanations.specs.Why.{goes-before, lowest}
 
 -- both ways of a choice, with the fact

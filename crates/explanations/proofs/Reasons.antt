@@ -11,10 +11,10 @@ use Rattle.records.specs.declared.Card.{Card}
 use Rattle.records.specs.declared.Certificate.{Certificate}
 use Rattle.rules.specs.Words.{any, Check, _⇒_, first}
 use Rattle.rules.specs.Chains.{present, in-date, valid-root, trusted-root, link, serves, good, within, chains-to, chain-domain, most-links}
-use Rattle.rules.proofs.Tests.{tests, eq→eqb, neqb→ne, by-test, not-elim, first-out}
-use Rattle.rules.proofs.Lists.{any-in}
-use Rattle.rules.proofs.Accepted.{Occupied, Held}
-use Rattle.rules.proofs.Domain.{chain-domain-is}
+use Rattle.laws.proofs.Tests.{tests, eq→eqb, neqb→ne, by-test, not-elim, first-out}
+use Rattle.laws.proofs.Lists.{any-in}
+use Rattle.laws.proofs.Accepted.{Occupied, Held}
+use Rattle.laws.proofs.Domain.{chain-domain-is}
 use Rattle.explanations.specs.Why.{said-recovery, signed, reasons, reason}
 use Rattle.explanations.specs.Claims.{First, here, later}
 

@@ -11,9 +11,9 @@ use Rattle.records.specs.declared.Card.{Card}
 use Rattle.records.specs.declared.Certificate.{Certificate}
 use Rattle.records.specs.declared.Executable.{Executable}
 use Rattle.rules.specs.Chains.{chain-domain}
-use Rattle.rules.proofs.Tests.{eq→eqb, neqb→ne, not-elim}
-use Rattle.rules.proofs.Lists.{any-in}
-use Rattle.rules.proofs.Accepted.{Held}
+use Rattle.laws.proofs.Tests.{eq→eqb, neqb→ne, not-elim}
+use Rattle.laws.proofs.Lists.{any-in}
+use Rattle.laws.proofs.Accepted.{Held}
 use Rattle.explanations.specs.Why.{Line, has-key, holders, its-domain, its-chain, reasons, reason, link-line, reason-line, untrusted-line}
 use Rattle.explanations.specs.Why.{chained, unsigned, held, despite, chain-lines, reason-lines, explained}
 use Rattle.explanations.specs.Claims.{Refusal}

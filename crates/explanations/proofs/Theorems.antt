@@ -19,10 +19,10 @@ use Rattle.rules.specs.Chains.{links, most-links}
 use Rattle.rules.specs.Explicit.{Chain, Shortest, Chain-within}
 use Rattle.rules.specs.ImageRules.{accepted}
 use Rattle.rules.specs.Codes.{executable-named}
-use Rattle.rules.proofs.Tests.{neqb→ne}
-use Rattle.rules.proofs.Accepted.{Accepted}
-use Rattle.rules.proofs.Accepts.{accepted-out}
-use Rattle.rules.proofs.Domain.{one-domain}
+use Rattle.laws.proofs.Tests.{neqb→ne}
+use Rattle.laws.proofs.Accepted.{Accepted}
+use Rattle.laws.proofs.Accepts.{accepted-out}
+use Rattle.laws.proofs.Domain.{one-domain}
 use Rattle.explanations.specs.Why.{Line, holders, its-domain, its-chain, said-recovery, reasons, reason}
 use Rattle.explanations.specs.Why.{reason-line, untrusted-line, unsigned-line, unheld-line}
 use Rattle.explanations.specs.Why.{chained, unsigned, held, despite, chain-lines, reason-lines, explained, explanation}

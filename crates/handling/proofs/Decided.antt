@@ -7,7 +7,7 @@ use mathlib.Core.Path.{_≡_, refl, ap, _∙_}
 use native.Mathlib.Omega.{arith}
 use lib.Dec.{T}
 use Rattle.rules.specs.Words.{Check, _⇒_, first}
-use Rattle.rules.proofs.Tests.{coded}
+use Rattle.laws.proofs.Tests.{coded}
 use Rattle.handling.specs.declared.Plan.{Plan}
 use Rattle.handling.specs.Plans.{plan}
 use Rattle.handling.proofs.CodeRows.{gives, here, next, rest, says}

@@ -17,13 +17,13 @@ use Rattle.rules.specs.Forms.{with-kind, forms, no-form, action-form}
 use Rattle.rules.specs.Codes.{code-of}
 use Rattle.rules.specs.Effects.{effect, settle, changed}
 use Rattle.rules.specs.Step.{refused, answer-done, done}
-use Rattle.rules.proofs.Tests.{eq→eqb}
-use Rattle.rules.proofs.Accepted.{Accepted}
-use Rattle.rules.proofs.Accepts.{accepted-out}
+use Rattle.laws.proofs.Tests.{eq→eqb}
+use Rattle.laws.proofs.Accepted.{Accepted}
+use Rattle.laws.proofs.Accepts.{accepted-out}
 use Rattle.keeping.proofs.Unrefused.{unrefused, action-formed}
 use Rattle.keeping.proofs.Shape.{shape-effect, sized-shape}
 use Rattle.rules.specs.AcceptedImage.{Accepted-image}
-use Rattle.rules.proofs.Promise.{executable-domain}
+use Rattle.laws.proofs.Promise.{executable-domain}
 use Rattle.chain.specs.Settling.{settle-in, Domains-known}
 use Rattle.handling.specs.declared.Plan.{Plan}
 use Rattle.handling.specs.Plans.{plan}

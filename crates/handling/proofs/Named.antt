@@ -7,7 +7,7 @@ use Rattle.records.specs.declared.Certificate.{Certificate}
 use Rattle.records.specs.declared.Executable.{Executable}
 use Rattle.rules.specs.Codes.{has-id, is-executable, certificate-named, executable-named, certificate-known, executable-known}
 use Rattle.rules.specs.Words.{first-place}
-use Rattle.rules.proofs.Places.{place-named}
+use Rattle.laws.proofs.Places.{place-named}
 use Rattle.lookup.specs.declared.Found.{Found}
 use Rattle.lookup.specs.RecordFound.{found}
 use Rattle.lookup.proofs.FoundSlot.{nowhere-none, at-some}

@@ -13,8 +13,8 @@ use Rattle.records.specs.declared.Event.{Event}
 use Rattle.rules.specs.Words.{between, any, Check, _⇒_, first, first-place}
 use Rattle.rules.specs.Forms.{listed, with-kind}
 use Rattle.rules.specs.Codes.{has-id, is-executable, names-certificate, certificate-known, executable-known, id-unknown, no-free-slot, code-of}
-use Rattle.rules.proofs.Accepts.{T-true}
-use Rattle.rules.proofs.Tests.{and-l, and-r, eq→eqb, nor-l, coded}
+use Rattle.laws.proofs.Accepts.{T-true}
+use Rattle.laws.proofs.Tests.{and-l, and-r, eq→eqb, nor-l, coded}
 use Rattle.keeping.proofs.Unrefused.{unrefused}
 use Rattle.lookup.proofs.FirstWithin.{first-within}
 use Rattle.handling.specs.declared.Plan.{Plan}

@@ -10,9 +10,9 @@ use lib.ListN.{length, getD, set}
 use Rattle.records.specs.Phone.{decode, encode}
 use Rattle.records.specs.Frame.{Framed}
 use Rattle.rules.specs.Words.{change, find, fill, distinct, first-place}
-use Rattle.rules.proofs.Slots.{set-is, fill-is, find-is}
+use Rattle.laws.proofs.Slots.{set-is, fill-is, find-is}
 use Rattle.rules.specs.AcceptedImage.{Accepted-image}
-use Rattle.rules.proofs.Tables.{Part}
+use Rattle.laws.proofs.Tables.{Part}
 
 module _ {A : Type 0} (t : A → Bool) (d : A) where
   passes : (l : List A) → first-place t l < length l → T (t (getD l (first-place t l) d))

@@ -17,9 +17,9 @@ use Rattle.rules.specs.Chains.{present}
 use Rattle.rules.specs.ImageRules.{row-fits}
 use Rattle.rules.specs.Codes.{code-of}
 use Rattle.rules.specs.Effects.{effect, settle, changed}
-use Rattle.rules.proofs.Tests.{or-cases}
-use Rattle.rules.proofs.Distinct.{alone}
-use Rattle.rules.proofs.Accepted.{Occupied, Valid, Kept, Named, Stored, Accepted}
+use Rattle.laws.proofs.Tests.{or-cases}
+use Rattle.laws.proofs.Distinct.{alone}
+use Rattle.laws.proofs.Accepted.{Occupied, Valid, Kept, Named, Stored, Accepted}
 use Rattle.keeping.proofs.After.{after, after-all}
 use Rattle.keeping.proofs.CertificateMaps.{free-valid}
 use Rattle.keeping.proofs.Unrefused.{unrefused}

@@ -9,14 +9,14 @@ use Rattle.records.specs.declared.Event.{Event}
 use Rattle.rules.specs.Forms.{forms, no-form}
 pub use Rattle.rules.specs.Forms.{with-kind}
 use Rattle.rules.specs.Effects.{tick, card-in, card-out, card-rule, install-certificate, delete-certificate, mark-valid, mark-invalid, message}
-use Rattle.rules.specs.Effects.{install-executable, delete-executable, verify, give, withdraw, request, replace, effect}
+use Rattle.rules.specs.Effects.{install-executable, delete-executable, verify, permit, request, replace, effect}
 use Rattle.rules.specs.Demands.{withdrawing}
-use Rattle.rules.proofs.Tests.{and-l, and-r}
+use Rattle.laws.proofs.Tests.{and-l, and-r}
 
 -- the effects under one name: with a line `unfolding the-effects` they compute at a known kind, but for power up, which looks at the card
 unfoldable pub the-effects : Unit {0}
 unfolding effect tick card-in card-out card-rule install-certificate delete-certificate mark-valid mark-invalid message
-    install-executable delete-executable verify give withdraw request replace
+    install-executable delete-executable verify permit request replace
 the-effects = tt
 
 -- ---- of every kind

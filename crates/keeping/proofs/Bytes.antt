@@ -20,9 +20,9 @@ use Rattle.rules.specs.ImageRules.{accepted}
 use Rattle.rules.specs.Codes.{rows, refusals, code-of, code}
 use Rattle.rules.specs.Effects.{changed}
 use Rattle.rules.specs.Step.{refused, refused-at, refusal, done, Outcome, step, run}
-use Rattle.rules.proofs.Tests.{and-l, and-r, by-test, eq→eqb, neqb→ne, not-elim, first-out}
-use Rattle.rules.proofs.Accepts.{T-true, accepted-out, accepted-in}
-use Rattle.rules.proofs.Marks.{Marked-by, changed-marks}
+use Rattle.laws.proofs.Tests.{and-l, and-r, by-test, eq→eqb, neqb→ne, not-elim, first-out}
+use Rattle.laws.proofs.Accepts.{T-true, accepted-out, accepted-in}
+use Rattle.laws.proofs.Marks.{Marked-by, changed-marks}
 use Rattle.keeping.proofs.After.{after, after-all}
 use Rattle.keeping.proofs.Shape.{shape-changed, sized-shape, mode-changed}
 use Rattle.keeping.proofs.AcceptedKept.{accepted-changed}

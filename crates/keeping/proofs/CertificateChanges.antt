@@ -15,13 +15,13 @@ use Rattle.rules.specs.ImageRules.{free-certificate, known-place, operator-of, 
 use Rattle.rules.specs.Forms.{listed}
 use Rattle.rules.specs.Codes.{has-id}
 use Rattle.rules.specs.Effects.{phone-operator-root, retired, card-rule, enabled-by}
-use Rattle.rules.proofs.Tests.{tests, nand, nor-l}
-use Rattle.rules.proofs.Lists.{fill-out}
-use Rattle.rules.proofs.Distinct.{distinct-fill}
-use Rattle.rules.proofs.Changes.{at-cases}
-use Rattle.rules.proofs.Roots.{valid-kind, valid-domain, valid-mark}
-use Rattle.rules.proofs.Accepted.{Occupied, Valid, Yielding, Kept}
-use Rattle.rules.proofs.Pairs.{has-valid-in}
+use Rattle.laws.proofs.Tests.{tests, nand, nor-l}
+use Rattle.laws.proofs.Lists.{fill-out}
+use Rattle.laws.proofs.Distinct.{distinct-fill}
+use Rattle.laws.proofs.Changes.{at-cases}
+use Rattle.laws.proofs.Roots.{valid-kind, valid-domain, valid-mark}
+use Rattle.laws.proofs.Accepted.{Occupied, Valid, Yielding, Kept}
+use Rattle.laws.proofs.Pairs.{has-valid-in}
 use Rattle.keeping.proofs.CertificateMaps.{Slot, Mild, Unmarking, like-marked, like-enabling, held-map, single-map, yielding-map}
 use Rattle.keeping.proofs.CertificateMaps.{mild-at, unmarking-at, slot-at, marked-fits, enabling-fits}
 

@@ -11,10 +11,10 @@ use Rattle.records.specs.declared.Certificate.{Certificate}
 use Rattle.records.specs.declared.Card.{Card}
 use Rattle.rules.specs.Words.{at}
 use Rattle.rules.specs.ImageRules.{known-place, operator-of}
-use Rattle.rules.proofs.Distinct.{distinct-map}
-use Rattle.rules.proofs.Changes.{at-cases}
-use Rattle.rules.proofs.Roots.{Like, valid-mark, valid-like}
-use Rattle.rules.proofs.Accepted.{Occupied, Valid, Held, Single, Yielding}
+use Rattle.laws.proofs.Distinct.{distinct-map}
+use Rattle.laws.proofs.Changes.{at-cases}
+use Rattle.laws.proofs.Roots.{Like, valid-mark, valid-like}
+use Rattle.laws.proofs.Accepted.{Occupied, Valid, Held, Single, Yielding}
 
 -- ---- slots that keep all but their marks
 

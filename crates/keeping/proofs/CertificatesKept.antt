@@ -17,11 +17,11 @@ use Rattle.rules.specs.Codes.{id-unknown, time-back, card-unknown, id-taken, ke
 use Rattle.rules.specs.Codes.{may-replace, cannot-replace}
 use Rattle.rules.specs.Effects.{tick, card-in, card-out, power-up, install-certificate, delete-certificate, after-marking, mark-valid, mark-invalid, message}
 use Rattle.rules.specs.Effects.{replaced, replace, effect}
-use Rattle.rules.proofs.Tests.{tests, eq→eqb, ne→neqb, nand, not-elim}
-use Rattle.rules.proofs.Lists.{none-out}
-use Rattle.rules.proofs.Fits.{occupied-out}
-use Rattle.rules.proofs.Roots.{valid-earlier, valid-kind, valid-domain, valid-mark}
-use Rattle.rules.proofs.Accepted.{Valid, Kept}
+use Rattle.laws.proofs.Tests.{tests, eq→eqb, ne→neqb, nand, not-elim}
+use Rattle.laws.proofs.Lists.{none-out}
+use Rattle.laws.proofs.Fits.{occupied-out}
+use Rattle.laws.proofs.Roots.{valid-earlier, valid-kind, valid-domain, valid-mark}
+use Rattle.laws.proofs.Accepted.{Valid, Kept}
 use Rattle.keeping.proofs.ByKind.{the-effects, by-kind}
 use Rattle.keeping.proofs.Unrefused.{Unrefused, owned-formed, replace-formed, replaceable}
 use Rattle.keeping.proofs.Naming.{Found, certificate-named-is, certificate-named-alone}

@@ -13,7 +13,7 @@ use Rattle.rules.specs.Codes.{id-unknown, actor-barred, time-back, card-unknown
 use Rattle.rules.specs.Codes.{install-of-other, mark-of-other, no-such-root, another-valid, no-free-slot, never, not-permitted}
 use Rattle.rules.specs.Codes.{cannot-replace, out-of-date, refusals, code-of}
 use Rattle.rules.specs.Effects.{effect, settle, changed}
-use Rattle.rules.proofs.Tests.{and-i, not-intro, neqb→ne, first-in}
+use Rattle.laws.proofs.Tests.{and-i, not-intro, neqb→ne, first-in}
 use Rattle.keeping.proofs.After.{after}
 use Rattle.keeping.proofs.Unrefused.{Unrefused, unrefused}
 

@@ -15,9 +15,9 @@ use Rattle.rules.specs.Codes.{executable-named, code-of, code}
 use Rattle.rules.specs.Effects.{changed}
 use Rattle.rules.specs.declared.Answer.{Answer}
 use Rattle.rules.specs.Step.{refused, refused-at, refusal, done, step}
-use Rattle.rules.proofs.Tests.{eq→eqb, or-i, or-j, or-cases}
-use Rattle.rules.proofs.Accepted.{Accepted}
-use Rattle.rules.proofs.Accepts.{accepted-out}
+use Rattle.laws.proofs.Tests.{eq→eqb, or-i, or-j, or-cases}
+use Rattle.laws.proofs.Accepted.{Accepted}
+use Rattle.laws.proofs.Accepts.{accepted-out}
 use Rattle.keeping.specs.OneEvent.{event-of, key-named, phone-after}
 use Rattle.keeping.proofs.Heard.{heard, verify-domain, domain-exact, none-links, counted}
 use Rattle.keeping.proofs.Bytes.{refusal-cases, Whole, code-whole-out, step-done, step-cases}

@@ -20,13 +20,13 @@ use Rattle.rules.specs.Forms.{with-kind, executable-form}
 use Rattle.rules.specs.Codes.{is-executable, executable-known, id-taken}
 use Rattle.rules.specs.Effects.{card-in, card-out, power-up}
 use Rattle.rules.specs.Effects.{new-executable, install-executable, effect, settled, settle}
-use Rattle.rules.proofs.Tests.{tests, eq→eqb, neqb→ne, nor-l, nor-r}
-use Rattle.rules.proofs.Lists.{none-out, fill-out}
-use Rattle.rules.proofs.Distinct.{distinct-map, distinct-fill}
-use Rattle.rules.proofs.Changes.{at-cases}
-use Rattle.rules.proofs.Domain.{chain-small}
-use Rattle.rules.proofs.Accepts.{chained-out}
-use Rattle.rules.proofs.Accepted.{Stored}
+use Rattle.laws.proofs.Tests.{tests, eq→eqb, neqb→ne, nor-l, nor-r}
+use Rattle.laws.proofs.Lists.{none-out, fill-out}
+use Rattle.laws.proofs.Distinct.{distinct-map, distinct-fill}
+use Rattle.laws.proofs.Changes.{at-cases}
+use Rattle.laws.proofs.Domain.{chain-small}
+use Rattle.laws.proofs.Accepts.{chained-out}
+use Rattle.laws.proofs.Accepted.{Stored}
 use Rattle.keeping.proofs.ByKind.{the-effects, by-kind}
 use Rattle.keeping.proofs.Unrefused.{Unrefused, id-formed, action-formed}
 

@@ -19,8 +19,8 @@ use Rattle.records.proofs.ImageParts.{cards-at-encode, executables-at-encode, t
 use Rattle.records.proofs.Said.{length-certificates, length-cards, length-executables, length-table}
 use Rattle.records.proofs.FrameFacts.{fields}
 use Rattle.records.proofs.RoundTrip.{length-encode}
-use Rattle.rules.proofs.Tests.{and-l, and-r}
-use Rattle.rules.proofs.Accepts.{true-T}
+use Rattle.laws.proofs.Tests.{and-l, and-r}
+use Rattle.laws.proofs.Accepts.{true-T}
 
 -- ---- what the test says
 

@@ -14,12 +14,12 @@ use Rattle.rules.specs.Chains.{most-links, chains-to, chain-domain, links}
 use Rattle.rules.specs.Explicit.{Chain, ends, goes-on, Chain-within, Shortest}
 use Rattle.rules.specs.Codes.{is-executable, executable-named, executable-known, id-unknown, code-of}
 use Rattle.rules.specs.Effects.{changed}
-use Rattle.rules.proofs.Tests.{tests, nand, not-elim}
-use Rattle.rules.proofs.Lists.{find-in}
-use Rattle.rules.proofs.Accepted.{Occupied, Accepted}
-use Rattle.rules.proofs.Changes.{at-cases}
-use Rattle.rules.proofs.Shortest.{chains-signed, chains-chain, chain-chains, links-small, links-shortest, links-none}
-use Rattle.rules.proofs.Domain.{chain-domain-is, chain-found}
+use Rattle.laws.proofs.Tests.{tests, nand, not-elim}
+use Rattle.laws.proofs.Lists.{find-in}
+use Rattle.laws.proofs.Accepted.{Occupied, Accepted}
+use Rattle.laws.proofs.Changes.{at-cases}
+use Rattle.laws.proofs.Shortest.{chains-signed, chains-chain, chain-chains, links-small, links-shortest, links-none}
+use Rattle.laws.proofs.Domain.{chain-domain-is, chain-found}
 use Rattle.keeping.proofs.Unrefused.{unrefused}
 use Rattle.keeping.proofs.Naming.{known-executable}
 use Rattle.keeping.proofs.Settle.{request-changed}

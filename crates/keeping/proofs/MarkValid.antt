@@ -13,9 +13,9 @@ use Rattle.rules.specs.Chains.{present}
 use Rattle.rules.specs.ImageRules.{operator-of}
 use Rattle.rules.specs.Codes.{has-id, rival}
 use Rattle.rules.specs.Effects.{phone-operator-root, on-a-card, after-marking}
-use Rattle.rules.proofs.Tests.{tests, neqb→ne, nand, by-test}
-use Rattle.rules.proofs.Roots.{Like, valid-root-of, valid-kind, valid-domain, valid-mark}
-use Rattle.rules.proofs.Accepted.{Valid, Kept}
+use Rattle.laws.proofs.Tests.{tests, neqb→ne, nand, by-test}
+use Rattle.laws.proofs.Roots.{Like, valid-root-of, valid-kind, valid-domain, valid-mark}
+use Rattle.laws.proofs.Accepted.{Valid, Kept}
 use Rattle.keeping.proofs.CertificateChanges.{holding}
 use Rattle.keeping.proofs.CertificateMaps.{Slot, like-refl, like-marked, held-map, marked-fits}
 

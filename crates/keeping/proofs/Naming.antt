@@ -10,10 +10,10 @@ use Rattle.records.specs.Phone.{Phone, no-certificate, no-executable}
 use Rattle.records.specs.declared.Certificate.{Certificate}
 use Rattle.records.specs.declared.Executable.{Executable}
 use Rattle.rules.specs.Codes.{has-id, certificate-named, certificate-known, is-executable, executable-named, executable-known}
-use Rattle.rules.proofs.Tests.{eq→eqb}
-use Rattle.rules.proofs.Lists.{any-in, find-in}
-use Rattle.rules.proofs.Distinct.{alone}
-use Rattle.rules.proofs.Accepted.{Held, Accepted, Stored}
+use Rattle.laws.proofs.Tests.{eq→eqb}
+use Rattle.laws.proofs.Lists.{any-in, find-in}
+use Rattle.laws.proofs.Distinct.{alone}
+use Rattle.laws.proofs.Accepted.{Held, Accepted, Stored}
 
 -- ---- a certificate
 

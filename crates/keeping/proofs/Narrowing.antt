@@ -13,10 +13,10 @@ use Rattle.rules.specs.Words.{fill}
 use Rattle.rules.specs.ImageRules.{free-certificate}
 use Rattle.rules.specs.Codes.{has-id}
 use Rattle.rules.specs.Effects.{phone-operator-root, on-a-card, after-marking}
-use Rattle.rules.proofs.Tests.{by-test}
-use Rattle.rules.proofs.Lists.{any-in, fill-keeps, fill-has}
-use Rattle.rules.proofs.Accepted.{Occupied, Accepted}
-use Rattle.rules.proofs.Roots.{Like}
+use Rattle.laws.proofs.Tests.{by-test}
+use Rattle.laws.proofs.Lists.{any-in, fill-keeps, fill-has}
+use Rattle.laws.proofs.Accepted.{Occupied, Accepted}
+use Rattle.laws.proofs.Roots.{Like}
 use Rattle.rules.specs.Explicit.{Root, Issued}
 use Rattle.keeping.proofs.CertificateMaps.{like-refl}
 use Rattle.keeping.proofs.Order.{Fewer, Below, Over, Under, fewer-refl, over-itself}

@@ -9,8 +9,8 @@ use Rattle.records.specs.declared.Executable.{Executable}
 use Rattle.rules.specs.Chains.{chains-to}
 use Rattle.rules.specs.Codes.{has-permission}
 use Rattle.rules.specs.Explicit.{Root, Issued}
-use Rattle.rules.proofs.Keys.{Key, by-root, by-issued}
-use Rattle.rules.proofs.Shortest.{chains-key, chains-signed, key-chains}
+use Rattle.laws.proofs.Keys.{Key, by-root, by-issued}
+use Rattle.laws.proofs.Shortest.{chains-key, chains-signed, key-chains}
 
 -- ---- keys
 

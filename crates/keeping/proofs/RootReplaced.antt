@@ -14,10 +14,10 @@ use Rattle.rules.specs.Words.{at, change}
 use Rattle.rules.specs.ImageRules.{known-place, operator-of}
 use Rattle.rules.specs.Codes.{has-id}
 use Rattle.rules.specs.Effects.{phone-operator-root, on-a-card, replaced}
-use Rattle.rules.proofs.Tests.{tests, neqb→ne}
-use Rattle.rules.proofs.Distinct.{distinct-map}
-use Rattle.rules.proofs.Changes.{at-cases}
-use Rattle.rules.proofs.Accepted.{Occupied, Valid, Held, Kept}
+use Rattle.laws.proofs.Tests.{tests, neqb→ne}
+use Rattle.laws.proofs.Distinct.{distinct-map}
+use Rattle.laws.proofs.Changes.{at-cases}
+use Rattle.laws.proofs.Accepted.{Occupied, Valid, Held, Kept}
 use Rattle.keeping.proofs.Done.{nand-i}
 use Rattle.keeping.proofs.CertificateChanges.{holding}
 use Rattle.keeping.proofs.CertificateMaps.{Slot}

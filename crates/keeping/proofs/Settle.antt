@@ -10,7 +10,7 @@ use Rattle.records.specs.declared.Event.{Event}
 use Rattle.rules.specs.Chains.{chains-to}
 use Rattle.rules.specs.Forms.{with-kind}
 use Rattle.rules.specs.Effects.{request, effect, settled, settle, changed}
-use Rattle.rules.proofs.Accepted.{Accepted}
+use Rattle.laws.proofs.Accepted.{Accepted}
 use Rattle.keeping.proofs.After.{after}
 use Rattle.keeping.proofs.ExecutablesKept.{settled-cases}
 use Rattle.keeping.proofs.Done.{after-cases}

@@ -12,9 +12,9 @@ use Rattle.records.specs.declared.Event.{Event}
 use Rattle.rules.specs.Forms.{with-kind, message-form}
 use Rattle.rules.specs.Codes.{code-of}
 use Rattle.rules.specs.Effects.{card-rule, tick, card-in, card-out, power-up, install-certificate, delete-certificate, mark-valid, mark-invalid, message}
-use Rattle.rules.specs.Effects.{install-executable, delete-executable, verify, give, withdraw, request, replace, effects, effect, settle, changed}
-use Rattle.rules.proofs.Tests.{tests}
-use Rattle.rules.proofs.Changes.{length-fill}
+use Rattle.rules.specs.Effects.{install-executable, delete-executable, verify, permit, request, replace, effects, effect, settle, changed}
+use Rattle.laws.proofs.Tests.{tests}
+use Rattle.laws.proofs.Changes.{length-fill}
 use Rattle.keeping.proofs.ByKind.{the-effects, by-kind}
 use Rattle.keeping.proofs.Unrefused.{Unrefused, unrefused}
 
@@ -97,13 +97,9 @@ shape-verify : Shapely verify
 unfolding verify
 shape-verify e p = shape-executables p _ (length-map (p .executables) _)
 
-shape-give : Shapely give
-unfolding give
-shape-give e p = shape-executables p _ (length-map (p .executables) _)
-
-shape-withdraw : Shapely withdraw
-unfolding withdraw
-shape-withdraw e p = shape-executables p _ (length-map (p .executables) _)
+shape-permit : (write : ℕ → ℕ → ℕ) → Shapely (permit write)
+unfolding permit
+shape-permit write e p = shape-executables p _ (length-map (p .executables) _)
 
 shape-request : Shapely request
 unfolding request
@@ -129,8 +125,7 @@ all-shapely =
       shape-install-executable,
       shape-delete-executable,
       shape-verify,
-      shape-give,
-      shape-withdraw,
+      shape-permit,
       shape-replace,
     )
     depth 21

@@ -10,9 +10,9 @@ use Rattle.records.specs.Phone.{Seen, no-certificate, marked, enabling}
 use Rattle.records.specs.declared.Certificate.{Certificate}
 use Rattle.rules.specs.Chains.{present, in-date, valid-root, trusted-root, link}
 use Rattle.rules.specs.ImageRules.{valid-in}
-use Rattle.rules.proofs.Tests.{tests, or-cases}
-use Rattle.rules.proofs.Accepted.{Valid}
-use Rattle.rules.proofs.Roots.{Like, valid-root-of, valid-mark, valid-earlier, valid-like}
+use Rattle.laws.proofs.Tests.{tests, or-cases}
+use Rattle.laws.proofs.Accepted.{Valid}
+use Rattle.laws.proofs.Roots.{Like, valid-root-of, valid-mark, valid-earlier, valid-like}
 
 -- ---- the tests, part by part
 

@@ -13,7 +13,7 @@ use Rattle.rules.specs.Codes.{refusals, code-of}
 use Rattle.rules.specs.Codes.{id-unknown, actor-barred, time-back, card-unknown, card-wrong, card-away, id-taken, key-elsewhere}
 use Rattle.rules.specs.Codes.{install-of-other, mark-of-other, no-such-root, another-valid, no-free-slot, never, not-permitted}
 use Rattle.rules.specs.Codes.{may-replace, cannot-replace, out-of-date}
-use Rattle.rules.proofs.Tests.{tests, and-r, not-elim, first-out}
+use Rattle.laws.proofs.Tests.{tests, and-r, not-elim, first-out}
 
 -- no refusal applied
 pub record Unrefused (p : Phone) (e : Event) : Type 0 where

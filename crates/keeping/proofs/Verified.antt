@@ -15,14 +15,14 @@ use Rattle.rules.specs.Forms.{with-kind, id-form}
 use Rattle.rules.specs.Codes.{is-executable, executable-known, code-of}
 use Rattle.rules.specs.Effects.{verify, effect, settle, changed}
 use Rattle.rules.specs.Demands.{verify-event}
-use Rattle.rules.proofs.Tests.{tests, by-test, neqb→ne, not-intro}
-use Rattle.rules.proofs.Lists.{any-in}
-use Rattle.rules.proofs.Changes.{at-cases}
-use Rattle.rules.proofs.Accepted.{Stored, Accepted}
+use Rattle.laws.proofs.Tests.{tests, by-test, neqb→ne, not-intro}
+use Rattle.laws.proofs.Lists.{any-in}
+use Rattle.laws.proofs.Changes.{at-cases}
+use Rattle.laws.proofs.Accepted.{Stored, Accepted}
 use Rattle.keeping.proofs.After.{after, after-all}
 use Rattle.keeping.proofs.AcceptedKept.{accepted-after, accepted-after-all}
-use Rattle.rules.proofs.Shortest.{chains-signed}
-use Rattle.rules.proofs.Domain.{KeysApart, chain-domain-is, chain-found, chain-small}
+use Rattle.laws.proofs.Shortest.{chains-signed}
+use Rattle.laws.proofs.Domain.{KeysApart, chain-domain-is, chain-found, chain-small}
 use Rattle.keeping.proofs.Done.{the-tests, unrefused-done, after-cases, nor-i}
 use Rattle.keeping.proofs.Order.{Fewer, Below, Over, Under, fewer-chains}
 use Rattle.keeping.proofs.Settle.{map-id, settle-still}

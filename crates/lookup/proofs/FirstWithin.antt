@@ -6,8 +6,8 @@ use mathlib.Core.Path.{_≡_, refl, _∙_}
 use lib.Dec.{ltb→lt}
 use lib.ListN.{length}
 use Rattle.rules.specs.Words.{any, first-place}
-use Rattle.rules.proofs.Accepts.{true-T}
-use Rattle.rules.proofs.Places.{place-told}
+use Rattle.laws.proofs.Accepts.{true-T}
+use Rattle.laws.proofs.Places.{place-told}
 
 -- a slot that is the first to pass, where one passes
 pub first-within : {A : Type 0} (t : A → Bool) (l : List A) {i : ℕ} → i ≡ first-place t l → any t l ≡ true → i < length l

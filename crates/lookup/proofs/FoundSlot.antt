@@ -5,7 +5,7 @@ use mathlib.Core.List.{List}
 use mathlib.Core.Path.{_≡_, refl, sym, ap, _∙_}
 use lib.ListN.{length, getD}
 use Rattle.rules.specs.Words.{any, first-place}
-use Rattle.rules.proofs.Places.{place-here, place-end, place-none, somewhere}
+use Rattle.laws.proofs.Places.{place-here, place-end, place-none, somewhere}
 use Rattle.lookup.specs.declared.Found.{Found}
 use Rattle.lookup.specs.RecordFound.{found}
 use Rattle.lookup.specs.RoomForOne.{Passed}

@@ -11,7 +11,7 @@ use Rattle.rules.specs.Codes.{has-id, in-another, is-executable}
 use Rattle.lookup.specs.declared.Room.{Room}
 use Rattle.lookup.specs.declared.CertificateRoom.{CertificateRoom}
 use Rattle.lookup.specs.RoomForOne.{executable-room, certificate-room}
-use Rattle.rules.proofs.Places.{place-none, place-some}
+use Rattle.laws.proofs.Places.{place-none, place-some}
 
 module _ (id : ℕ) (l : List Executable) where
   pub executable-taken : any (is-executable id) l ≡ true → Room.Taken ≡ executable-room id l

@@ -17,7 +17,7 @@ use Rattle.rules.specs.declared.Answer.{Answer}
 use Rattle.rules.specs.ImageRules.{accepted, «open»}
 use Rattle.rules.specs.Faults.{fault, fault-offset}
 use Rattle.rules.specs.Step.{refusal}
-use Rattle.rules.proofs.Where.{accepted-no-fault, rule-known, offset-small}
+use Rattle.laws.proofs.Where.{accepted-no-fault, rule-known, offset-small}
 use Rattle.explanations.specs.Why.{Line, line, explanation}
 use Rattle.reasons.specs.declared.Why.{Why}
 use Rattle.reasons.specs.Lines.{line-size, line-bytes, most-lines, with-lines, why-code, lines-of, why, Explained}

@@ -22,11 +22,11 @@ use Rattle.rules.specs.Codes.{executable-named, rows, code}
 use Rattle.rules.specs.Effects.{changed}
 use Rattle.rules.specs.declared.Answer.{Answer}
 use Rattle.rules.specs.Step.{refused, refused-at, refusal, done, step, run, answers}
-use Rattle.rules.proofs.Tests.{and-l, and-r, eq→eqb}
-use Rattle.rules.proofs.Accepted.{Accepted}
-use Rattle.rules.proofs.Accepts.{accepted-out}
-use Rattle.rules.proofs.Shortest.{links-small}
-use Rattle.rules.proofs.Where.{accepted-no-fault, rule-known, offset-small}
+use Rattle.laws.proofs.Tests.{and-l, and-r, eq→eqb}
+use Rattle.laws.proofs.Accepted.{Accepted}
+use Rattle.laws.proofs.Accepts.{accepted-out}
+use Rattle.laws.proofs.Shortest.{links-small}
+use Rattle.laws.proofs.Where.{accepted-no-fault, rule-known, offset-small}
 use Rattle.keeping.specs.OneEvent.{event-of}
 use Rattle.keeping.proofs.Bytes.{step-cases, step-refused, refusal-cases, code-whole-out}
 use Rattle.keeping.proofs.AcceptedKept.{accepted-changed}

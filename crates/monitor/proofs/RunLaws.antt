@@ -20,7 +20,7 @@ use Rattle.rules.specs.declared.Fault.{Fault}
 use Rattle.rules.specs.ImageRules.{broken, accepted}
 use Rattle.rules.specs.Faults.{fault}
 use Rattle.rules.specs.Step.{refused-at, run, answers}
-use Rattle.rules.proofs.Tests.{by-test, neqb→ne}
+use Rattle.laws.proofs.Tests.{by-test, neqb→ne}
 use Rattle.opening.specs.Opened.{Opened}
 use Rattle.rules.specs.AcceptedImage.{Accepted-image}
 use Rattle.events.specs.Stepped.{Stepped, Stepped-accepted}

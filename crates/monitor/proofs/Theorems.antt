@@ -21,7 +21,7 @@ use Rattle.rules.specs.ImageRules.{accepted, «open»}
 use Rattle.rules.specs.Faults.{fault, fault-offset}
 use Rattle.rules.specs.Codes.{code}
 use Rattle.rules.specs.Step.{refused, step, run, answers}
-use Rattle.rules.proofs.Where.{no-fault-accepted, rule-known}
+use Rattle.laws.proofs.Where.{no-fault-accepted, rule-known}
 use Rattle.keeping.proofs.EventAnswers.{answer-code, told-where, told-no-fault}
 use Rattle.explanations.specs.Why.{said-link, line, explanation}
 use Rattle.reasons.specs.Lines.{line-size, most-lines, with-lines, why-code, lines-of}

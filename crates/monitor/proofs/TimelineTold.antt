@@ -16,7 +16,7 @@ use Rattle.rules.specs.declared.Answer.{Answer}
 use Rattle.rules.specs.ImageRules.{accepted, «open»}
 use Rattle.rules.specs.Faults.{fault, fault-offset}
 use Rattle.rules.specs.Step.{run, answers}
-use Rattle.rules.proofs.Where.{rule-known, offset-small}
+use Rattle.laws.proofs.Where.{rule-known, offset-small}
 use Rattle.timeline.specs.declared.Unrolled.{Unrolled}
 use Rattle.timeline.specs.Timeline.{timeline-code, timeline-events}
 use Rattle.timeline.specs.Unrolls.{room, with-events, unroll, Unrolls}

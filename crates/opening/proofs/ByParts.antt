@@ -19,11 +19,11 @@ use Rattle.rules.specs.ImageRules.{card-owns, operator-of, valid-in, known-plac
 use Rattle.rules.specs.ImageRules.{i2, i3, i4, i5, i6, i7, i8}
 use Rattle.rules.specs.Parts.{apart, i5-with}
 use Rattle.rules.specs.Faults.{lowest, of-certificates, of-executables, certificate-site, executable-site, i3-site, at-rule, no-fault}
-use Rattle.rules.proofs.Tests.{eq→eqb, or-i, eqb-turn}
-use Rattle.rules.proofs.Lists.{all-in}
-use Rattle.rules.proofs.Accepts.{T-true}
-use Rattle.rules.proofs.More.{all-grows}
-use Rattle.rules.proofs.RulesGrow.{placed, answer-keeps, i5-spares, places-grow, cards-grow, i4-grows, i5-grows, i7-grows, i8-grows}
+use Rattle.laws.proofs.Tests.{eq→eqb, or-i, eqb-turn}
+use Rattle.laws.proofs.Lists.{all-in}
+use Rattle.laws.proofs.Accepts.{T-true}
+use Rattle.laws.proofs.More.{all-grows}
+use Rattle.laws.proofs.RulesGrow.{placed, answer-keeps, i5-spares, places-grow, cards-grow, i4-grows, i5-grows, i7-grows, i8-grows}
 
 -- ---- if the first, then the second
 

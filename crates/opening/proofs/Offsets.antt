@@ -15,7 +15,7 @@ use Rattle.rules.specs.declared.Fault.{Fault}
 use Rattle.rules.specs.Faults.{offset-of, fault, fault-offset}
 use Rattle.rules.specs.Step.{refused-at}
 use Rattle.rules.specs.FaultNames.{Within}
-use Rattle.rules.proofs.Where.{fault-within}
+use Rattle.laws.proofs.Where.{fault-within}
 
 -- f is the fault of l, and s where it is
 module _ (l : List ℕ) {f : Fault} (e : f ≡ fault l) {s : Site} (at : f .site ≡ s) where

@@ -14,9 +14,9 @@ use Rattle.rules.specs.declared.Fault.{Fault}
 use Rattle.rules.specs.Words.{all, first}
 use Rattle.rules.specs.ImageRules.{row-fits, i2, i3, i4, i5, i6, i7, i8, broken, accepted}
 use Rattle.rules.specs.Faults.{lowest, certificate-site, executable-site, i3-site, at-rule, no-fault, fault}
-use Rattle.rules.proofs.RulesGrow.{answer-breaks, answer-keeps, answer-at}
+use Rattle.laws.proofs.RulesGrow.{answer-breaks, answer-keeps, answer-at}
 use Rattle.opening.specs.Opened.{Kept, Opened}
-use Rattle.rules.proofs.Promise.{accepted-image}
+use Rattle.laws.proofs.Promise.{accepted-image}
 
 -- a is what is told of a rule b: nothing, or that it is broken at s
 abbrev Told : Bool → ℕ → Site → Fault → Type 0

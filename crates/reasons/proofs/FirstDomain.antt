@@ -9,8 +9,8 @@ use Rattle.records.specs.Phone.{Trust}
 use Rattle.rules.specs.declared.Chained.{Chained}
 use Rattle.rules.specs.Words.{first}
 use Rattle.rules.specs.Chains.{chains-to, chain-domain, links, chain-of}
-use Rattle.rules.proofs.Tests.{by-test}
-use Rattle.rules.proofs.Shortest.{chains-signed, chains-chain, chain-chains, links-none}
+use Rattle.laws.proofs.Tests.{by-test}
+use Rattle.laws.proofs.Shortest.{chains-signed, chains-chain, chain-chains, links-none}
 
 -- b where it cannot be false, and where it cannot be true
 yes : (b : Bool) → (T (not b) → ⊥) → b ≡ true

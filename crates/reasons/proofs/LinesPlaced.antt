@@ -16,7 +16,7 @@ use Rattle.records.specs.declared.Certificate.{Certificate}
 use Rattle.records.proofs.Joined.{length-joined}
 use Rattle.records.proofs.Puts.{put-next}
 use Rattle.rules.specs.Chains.{serves, good}
-use Rattle.rules.proofs.Tests.{neqb→ne}
+use Rattle.laws.proofs.Tests.{neqb→ne}
 use Rattle.explanations.specs.Why.{Line, link-line, lowest, by-id, climb}
 use Rattle.explanations.proofs.LowestId.{cond-cases}
 use Rattle.explanations.proofs.Climb.{length-climb}

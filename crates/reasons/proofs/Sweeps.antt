@@ -9,7 +9,7 @@ use lib.ListN.{length, getD, drop, drop-of-length-le}
 use Rattle.records.specs.Phone.{no-certificate}
 use Rattle.records.specs.declared.Certificate.{Certificate}
 use Rattle.rules.specs.Chains.{serves}
-use Rattle.rules.proofs.Loops.{rest}
+use Rattle.laws.proofs.Loops.{rest}
 use Rattle.explanations.specs.Why.{lowest}
 
 module _ (t : Certificate → Bool) (n : ℕ) (l : List Certificate) (i : ℕ) where

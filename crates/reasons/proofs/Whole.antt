@@ -22,10 +22,10 @@ use Rattle.rules.specs.ImageRules as ImageRules
 use Rattle.rules.specs.Faults.{fault}
 use Rattle.rules.specs.Step.{refused-at, refusal}
 use Rattle.rules.specs.Codes.{is-executable, executable-named, executable-known}
-use Rattle.rules.proofs.Tests.{eq→eqb, ne→neqb, not-intro}
-use Rattle.rules.proofs.Accepts.{true-T}
-use Rattle.rules.proofs.Shortest.{links-small}
-use Rattle.rules.proofs.Places.{place-named}
+use Rattle.laws.proofs.Tests.{eq→eqb, ne→neqb, not-intro}
+use Rattle.laws.proofs.Accepts.{true-T}
+use Rattle.laws.proofs.Shortest.{links-small}
+use Rattle.laws.proofs.Places.{place-named}
 use Rattle.rules.specs.AcceptedImage.{Accepted-image}
 use Rattle.lookup.specs.declared.Found.{Found}
 use Rattle.lookup.specs.RecordFound.{found}

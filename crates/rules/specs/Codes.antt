@@ -212,10 +212,13 @@ refusals p e =
 unfoldable pub code-of : Phone → Event → ℕ
 code-of p e = first (refusals p e)
 
--- for any bytes of an image and of an event: 1 "image breaks a rule I1–I8", 2 "event not 24 bytes"
+-- for any bytes of an event: 2 "event not 24 bytes"
+abbrev pub event-rows : Phone → List ℕ → List Check
+event-rows p v = (not (eqb (length v) event-size) ⇒ 2) ∷ refusals p (event-read v 0)
+
+-- and of an image: 1 "image breaks a rule I1–I8"
 abbrev pub rows : List ℕ → List ℕ → List Check
-rows l v =
-    (not (accepted l) ⇒ 1) ∷ (not (eqb (length v) event-size) ⇒ 2) ∷ refusals (decode l) (event-read v 0)
+rows l v = (not (accepted l) ⇒ 1) ∷ event-rows (decode l) v
 
 unfoldable pub code : List ℕ → List ℕ → ℕ
 code l v = first (rows l v)

@@ -19,7 +19,7 @@ use Rattle.rules.specs.Codes.{no-such-root, rival, another-valid, no-fre
 use Rattle.rules.specs.Codes.{cannot-replace, out-of-date, code-of, code}
 use Rattle.rules.specs.Effects.{retired, card-rule, tick, card-in, card-out, power-up, install-certificate, delete-certificate, on-a-card}
 use Rattle.rules.specs.Effects.{after-marking, mark-valid, mark-invalid, enabled-by, message, install-executable, delete-executable, verify}
-use Rattle.rules.specs.Effects.{give, withdraw, request, replace, effect, settled, settle, changed}
+use Rattle.rules.specs.Effects.{permit, request, replace, effect, settled, settle, changed}
 use Rattle.rules.specs.Step.{refusal, done, step, run, answers}
 use Rattle.rules.specs.Demands.{grants, withdrawing, giving}
 
@@ -33,6 +33,6 @@ unfolding be digit put-digit decode encode header-of framed header-fits first-wr
     certificate-named executable-named certificate-known executable-known subject recovery-named id-unknown actor-barred time-back card-unknown card-wrong
     card-away id-taken key-elsewhere install-of-other mark-of-other no-such-root rival another-valid no-free-slot table-byte never
     not-permitted may-replace cannot-replace out-of-date code-of code retired card-rule tick card-in card-out power-up install-certificate delete-certificate
-    on-a-card after-marking mark-valid mark-invalid enabled-by message install-executable delete-executable verify give withdraw request replace effect
+    on-a-card after-marking mark-valid mark-invalid enabled-by message install-executable delete-executable verify permit request replace effect
     settled settle changed refusal done step run answers grants withdrawing giving
 computing = tt

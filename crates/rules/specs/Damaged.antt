@@ -54,6 +54,8 @@ cases =
     ∷ wrong (damaged 90 (0 ∷ 0 ∷ [])) 5 (Site.Certificate 2) 88
     ∷ wrong (damaged 12 (0 ∷ 2 ∷ [])) 5 (Site.Certificate 0) 40
     ∷ wrong (damaged 180 (3 ∷ [])) 6 (Site.Row 1) 180
+    -- what untrusted applications may with permission an operator's never may
+    ∷ wrong (damaged 180 (1 ∷ 0 ∷ 2 ∷ 2 ∷ [])) 6 (Site.Row 1) 180
     ∷ wrong (damaged 164 (0 ∷ 1 ∷ [])) 7 (Site.Executable 1) 164
     ∷ wrong (damaged 154 (2 ∷ [])) 8 (Site.Executable 0) 152
     ∷ []

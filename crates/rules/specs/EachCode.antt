@@ -1,10 +1,15 @@
--- 01, "What an event is told", and 02, items 4 and 5: for each part of each row from code 2 on, an event that just gets the code beside one that just does
--- not, computed from its bytes. Assumes nothing.
+-- 01, "What an event is told", and 02, items 4, 5 and 7: for each part of each row from code 2 on, an event that just gets the code beside one that just
+-- does not, computed from its bytes. Assumes nothing.
 use Prim.Native.Nat.{ℕ}
+use mathlib.Core.Bool.{true}
 use mathlib.Core.List.{List, [], _∷_, _++_, map}
 use mathlib.Core.Path.{_≡_, refl}
 use Rattle.octets.specs.Octets.{bytes, put}
-use Rattle.rules.specs.Step.{step, run}
+use Rattle.records.specs.Phone.{decode}
+use Rattle.rules.specs.Words.{first}
+use Rattle.rules.specs.ImageRules.{accepted}
+use Rattle.rules.specs.Codes.{event-rows}
+use Rattle.rules.specs.Step.{run}
 use Rattle.rules.specs.Computing.{computing}
 
 -- ---- three phones at clock 100 with a given card present: each has a free certificate slot, and cards 1 and 2 of operators 5 and 6
@@ -87,6 +92,10 @@ keys-away = keys 0
 
 abbrev pub keys-here : List ℕ
 keys-here = keys 1
+
+-- those that an example may begin with
+abbrev pub phones : List (List ℕ)
+phones = apps-away ∷ apps-here ∷ roots-away ∷ roots-here ∷ short-rival ∷ keys-away ∷ keys-here ∷ []
 
 -- ---- events: kind, actor, id, second, third, fourth, key, verifying key, owner, expiry
 abbrev clock-100 : List ℕ
@@ -402,11 +411,19 @@ examples =
     ∷ by-field keys-away 4 0x08_03_0004_0000_00_00_00000000_00000000_00000006_00000000 0x08_03_0004_0000_00_00_00000000_00000000_00000005_00000000
     ∷ []
 
--- the codes that the rules give to the two events
+-- the codes that the rules give to the two events; I1 to I8 are asked below, of each phone once
 abbrev pub heard : Example → List ℕ
-heard x = step (run (x .start) (x .before)) (x .event) .answer .code ∷ step (run (x .start) (x .done-before)) (x .done) .answer .code ∷ []
+heard x =
+    first (event-rows (decode (run (x .start) (x .before))) (x .event))
+    ∷ first (event-rows (decode (run (x .start) (x .done-before))) (x .done))
+    ∷ []
 
 -- one list under one claim: the one event gets the code, the other is done
 pub each-code-just-given : map heard examples ≡ map (λ x. x .code ∷ 0 ∷ []) examples
 unfolding computing put
 each-code-just-given = refl
+
+-- on phones that are accepted, as they are then after any events
+pub phones-accepted : map accepted phones ≡ map (λ l. true) phones
+unfolding computing put
+phones-accepted = refl

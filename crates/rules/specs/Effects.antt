@@ -108,11 +108,8 @@ unfoldable pub verify : Event → Phone → Phone
 verify e p = change-executable e (λ x. in-domain (chain-of (p .trust) (x .signing) .domain) x) p
 
 -- 13 "give", 14 "withdraw permission": "one bit for each action, action 0 in the lowest bit"
-unfoldable pub give : Event → Phone → Phone
-give e p = change-executable e (λ x. permitted (set-bit (x .permissions) (e .second)) x) p
-
-unfoldable pub withdraw : Event → Phone → Phone
-withdraw e p = change-executable e (λ x. permitted (clear-bit (x .permissions) (e .second)) x) p
+unfoldable pub permit : (ℕ → ℕ → ℕ) → Event → Phone → Phone
+permit write e p = change-executable e (λ x. permitted (write (x .permissions) (e .second)) x) p
 
 -- 15: "A request changes nothing."
 unfoldable pub request : Event → Phone → Phone
@@ -153,8 +150,8 @@ effects =
     ∷ install-executable
     ∷ delete-executable
     ∷ verify
-    ∷ give
-    ∷ withdraw
+    ∷ permit set-bit
+    ∷ permit clear-bit
     ∷ request
     ∷ replace
     ∷ []

@@ -76,10 +76,18 @@ pub run-as-printed : answers image events ≡ lines
 unfolding computing
 run-as-printed = refl
 
+abbrev card-1-in : List ℕ
+card-1-in = bytes 24 0x02_00_0000_0001_00_00_00000000_00000000_00000000_00000000
+
 -- which the run itself does not print: "Setting the phone's key valid again when the card leaves" is a trap, and key 10 stays invalid after event 10
 pub phone-key-stays-invalid : certificate-named (decode (run image (take 10 events))) 10 .mark ≡ 0
 unfolding computing
 phone-key-stays-invalid = refl
+
+-- "No rule marks a key valid by itself.": nor does the card of its own operator, card 1, which comes then
+pub no-card-revives : certificate-named (decode (run image (take 10 events ++ (card-1-in ∷ [])))) 10 .mark ≡ 0
+unfolding computing
+no-card-revives = refl
 
 -- ---- "Boundaries, marked P"
 

@@ -15,8 +15,8 @@ use Rattle.rules.specs.ImageRules.{certificate-fits}
 use Rattle.rules.specs.Forms.{new-certificate, listed, unlisted, clock-form, card-form, id-form, message-form}
 use Rattle.rules.specs.Forms.{executable-form, action-form, owned-form, replace-form}
 use Rattle.terms.specs.Seldom.{rarely, seldom}
-use Rattle.rules.proofs.Tests.{and-l, and-r, by-test}
-use Rattle.rules.proofs.Fits.{occupied-out}
+use Rattle.laws.proofs.Tests.{and-l, and-r, by-test}
+use Rattle.laws.proofs.Fits.{occupied-out}
 
 -- ---- a form with all its unused fields as one sum: s is the sum of the fields that few kinds use
 

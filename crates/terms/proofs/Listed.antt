@@ -12,7 +12,7 @@ use lib.Seq.{length-take-le, getD-take}
 use Rattle.records.specs.declared.Event.{Event}
 use Rattle.rules.specs.Words.{any, all-zero}
 use Rattle.rules.specs.Forms.{eight, listed}
-use Rattle.rules.proofs.Loops.{rest, any-here, any-next, any-end}
+use Rattle.laws.proofs.Loops.{rest, any-here, any-next, any-end}
 
 past-four : (n i : ℕ) → n ≤ i → i ≢ n → i ≢ n + 1 → i ≢ n + 2 → i ≢ n + 3 → n + 4 ≤ i
 past-four n i h a b c d = omega arith

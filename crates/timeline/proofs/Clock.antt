@@ -16,7 +16,7 @@ use Rattle.rules.specs.ImageRules.{accepted}
 use Rattle.rules.specs.Codes.{code-of, code}
 use Rattle.rules.specs.Effects.{changed}
 use Rattle.rules.specs.Step.{step, run}
-use Rattle.rules.proofs.Tests.{and-l, and-r, by-test, neqb→ne}
+use Rattle.laws.proofs.Tests.{and-l, and-r, by-test, neqb→ne}
 use Rattle.keeping.proofs.Bytes.{code-whole, step-refused, accepted-run}
 use Rattle.demands.proofs.Theorems.{event-phone, event-frame}
 use Rattle.timeline.specs.Timeline.{Timed, timed-fits, in-time, clock-event, record-events, unrolled, clock-of}

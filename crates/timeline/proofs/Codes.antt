@@ -9,7 +9,7 @@ use lib.Dec.{T}
 use Rattle.rules.specs.Words.{_⇒_, first}
 use Rattle.rules.specs.ImageRules.{accepted}
 use Rattle.rules.specs.Step.{run, answers}
-use Rattle.rules.proofs.Tests.{and-r}
+use Rattle.laws.proofs.Tests.{and-r}
 use Rattle.timeline.specs.Timeline.{Timed, timed, timeline-framed, in-time, timeline-fits, clock-of, timeline-code, timeline-events}
 use Rattle.timeline.specs.Running.{in-turn, met}
 use Rattle.timeline.proofs.UnrollsTold.{events-none, events-all}

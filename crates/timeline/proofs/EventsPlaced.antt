@@ -15,7 +15,7 @@ use Rattle.records.specs.Sizes.{event-size}
 use Rattle.records.specs.Layout.{event-bytes}
 use Rattle.records.specs.Phone.{joined}
 use Rattle.records.proofs.Puts.{put-next}
-use Rattle.rules.proofs.Tests.{by-test}
+use Rattle.laws.proofs.Tests.{by-test}
 use Rattle.timeline.specs.Timeline.{timed-start, timed-size, timed-count, timeline-framed, Timed, timed-at, timed, clock-event, record-events, unrolled}
 use Rattle.timeline.specs.Unrolls.{room, with-event, with-more, with-events}
 use Rattle.timeline.proofs.Framed.{event-whole, timed-next, timed-end}

@@ -12,7 +12,7 @@ use lib.Seq.{getD-take, getD-drop, length-take-le}
 use Rattle.octets.specs.Octets.{be, be8, be16, be32}
 use Rattle.records.specs.Sizes.{event-size}
 use Rattle.records.proofs.Joined.{length-tabulate, getD-tabulate}
-use Rattle.rules.proofs.Loops.{rest}
+use Rattle.laws.proofs.Loops.{rest}
 use Rattle.timeline.specs.Timeline.{timeline-version, most-timed, timed-start, timed-size, timed-count, timeline-framed}
 use Rattle.timeline.specs.Timeline.{timed-at, timed, timed-fits, in-time, timeline-fits}
 

@@ -10,7 +10,7 @@ use Rattle.octets.proofs.ByteLaws.{length-put}
 use Rattle.records.specs.Sizes.{event-size}
 use Rattle.records.specs.Phone.{joined, tabulate}
 use Rattle.records.proofs.Joined.{length-tabulate}
-use Rattle.rules.proofs.Tests.{by-test, neqb→ne}
+use Rattle.laws.proofs.Tests.{by-test, neqb→ne}
 use Rattle.timeline.specs.declared.Unrolled.{Unrolled}
 use Rattle.timeline.specs.Timeline.{timeline-framed, timed-count, Timed, timed-at, timed, record-events, unrolled}
 use Rattle.timeline.specs.Timeline.{clock-of, timeline-code, timeline-events, most-events}

@@ -7,8 +7,8 @@ use mathlib.Core.Path.{_≡_}
 use Rattle.records.specs.Phone.{decode, no-executable}
 use Rattle.rules.specs.Words.{all}
 use Rattle.rules.specs.ImageRules.{chained-fits, i8}
-use Rattle.rules.proofs.Lowest.{breaks-here, keeps-on, breaks-nowhere}
-use Rattle.rules.proofs.More.{all-grows}
+use Rattle.laws.proofs.Lowest.{breaks-here, keeps-on, breaks-nowhere}
+use Rattle.laws.proofs.More.{all-grows}
 use Rattle.chain.proofs.ByDomain.{domain-known}
 use Rattle.chain.proofs.first_unchained.Statement.{statement}
 use Rattle.chain.proofs.first_unchained.Tie as tie

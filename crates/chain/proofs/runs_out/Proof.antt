@@ -1,7 +1,7 @@
 use Rattle.records.specs.Phone.{decode, no-certificate}
 use Rattle.records.specs.declared.Certificate.{Certificate}
 use Rattle.rules.specs.Words.{any}
-use Rattle.rules.proofs.Loops.{any-stops, any-goes-on, any-fails}
+use Rattle.laws.proofs.Loops.{any-stops, any-goes-on, any-fails}
 use Rattle.chain.specs.Breaks.{runs-out}
 use mathlib.Core.Bool.{Bool, false}
 use mathlib.Core.List.{List}

@@ -1,7 +1,8 @@
+use mathlib.Core.Bool.{true}
 use borrow.Author.Needs.{needs}
 use Rattle.handling.proofs.Handles.{plan-handled}
 use Rattle.executables.proofs.ActsOnExecutable.{Acts, acts-named}
-use Rattle.executables.proofs.ExecutablesDone.{give-asks, give-done}
+use Rattle.executables.proofs.ExecutablesDone.{permit-asks, permit-done}
 use Rattle.executables.proofs.give.Statement.{statement}
 use Rattle.executables.proofs.give.Tie as tie
 
@@ -15,12 +16,12 @@ acts c = let z = start (c .before .before) in acts-named 13 _ (z .args .e) (z .p
 give-requires-2 : tie.Need-give-requires-2
 give-requires-2 c κs =
     let a = acts (c .before .before) in
-    (a .accepted, (a .place, (a .within, give-asks a)))
+    (a .accepted, (a .place, (a .within, permit-asks true a)))
 
 returns-2 : tie.Need-returns-2
 returns-2 c =
     let wrote = c .before .before .before in
-    give-done (acts (wrote .before .before .before)) (c .done .ensures) (wrote .give2 .ensures)
+    permit-done true (acts (wrote .before .before .before)) (c .done .ensures) (wrote .give2 .ensures)
 
 pub give-spec : {M : Type 1} → statement M
 give-spec =

@@ -1,7 +1,8 @@
+use mathlib.Core.Bool.{false}
 use borrow.Author.Needs.{needs}
 use Rattle.handling.proofs.Handles.{plan-handled}
 use Rattle.executables.proofs.ActsOnExecutable.{Acts, acts-named}
-use Rattle.executables.proofs.ExecutablesDone.{withdraw-asks, withdraw-done}
+use Rattle.executables.proofs.ExecutablesDone.{permit-asks, permit-done}
 use Rattle.executables.proofs.withdraw.Statement.{statement}
 use Rattle.executables.proofs.withdraw.Tie as tie
 
@@ -15,12 +16,12 @@ acts c = let z = start (c .before .before) in acts-named 14 _ (z .args .e) (z .p
 withdraw-requires-2 : tie.Need-withdraw-requires-2
 withdraw-requires-2 c κs =
     let a = acts (c .before .before) in
-    (a .accepted, (a .place, (a .within, withdraw-asks a)))
+    (a .accepted, (a .place, (a .within, permit-asks false a)))
 
 returns-2 : tie.Need-returns-2
 returns-2 c =
     let wrote = c .before .before .before in
-    withdraw-done (acts (wrote .before .before .before)) (c .done .ensures) (wrote .withdraw2 .ensures)
+    permit-done false (acts (wrote .before .before .before)) (c .done .ensures) (wrote .withdraw2 .ensures)
 
 pub withdraw-spec : {M : Type 1} → statement M
 withdraw-spec =

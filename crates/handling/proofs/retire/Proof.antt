@@ -3,8 +3,8 @@ use native.Mathlib.Omega.{arith}
 use borrow.Author.Tests.{not-true, not-false}
 use borrow.Author.Needs.{needs}
 use Rattle.handling.specs.Retiring.{retire}
-use Rattle.rules.proofs.Tables.{certificates}
-use Rattle.rules.proofs.SlotSweeps.{Sweeping, sweep-starts, sweep-goes-on, sweep-skips, sweep-ends}
+use Rattle.laws.proofs.Tables.{certificates}
+use Rattle.laws.proofs.SlotSweeps.{Sweeping, sweep-starts, sweep-goes-on, sweep-skips, sweep-ends}
 use Rattle.handling.proofs.Retires.{retire-written, retire-skipped}
 use Rattle.handling.proofs.retire.Statement.{statement}
 use Rattle.handling.proofs.retire.Tie as tie

@@ -9,8 +9,8 @@ use lib.ListN.{length, drop}
 use Rattle.records.specs.Phone.{decode, no-certificate}
 use Rattle.rules.specs.Words.{any, first-place}
 use Rattle.rules.specs.Codes.{has-id, in-another}
-use Rattle.rules.proofs.Loops.{any-back, any-back-done, any-end}
-use Rattle.rules.proofs.Places.{place-back-here, place-back, place-back-done, place-back-end, place-none, place-some, somewhere}
+use Rattle.laws.proofs.Loops.{any-back, any-back-done, any-end}
+use Rattle.laws.proofs.Places.{place-back-here, place-back, place-back-done, place-back-end, place-none, place-some, somewhere}
 use Rattle.lookup.proofs.SweptRoom.{certificate-taken, certificate-elsewhere, certificate-full, certificate-free}
 use Rattle.lookup.proofs.certificate_room.Statement.{statement}
 use Rattle.lookup.proofs.certificate_room.Tie as tie

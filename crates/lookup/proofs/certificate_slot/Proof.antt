@@ -7,7 +7,7 @@ use mathlib.Core.Path.{_≡_, sym, _∙_}
 use Rattle.records.specs.Phone.{decode, no-certificate}
 use Rattle.rules.specs.Codes.{has-id}
 use Rattle.lookup.specs.RoomForOne.{Passed}
-use Rattle.rules.proofs.Places.{place-next}
+use Rattle.laws.proofs.Places.{place-next}
 use Rattle.lookup.proofs.FoundSlot.{found-here, found-nowhere}
 use Rattle.lookup.proofs.certificate_slot.Statement.{statement}
 use Rattle.lookup.proofs.certificate_slot.Tie as tie

@@ -6,7 +6,7 @@ use mathlib.Core.Path.{_≡_, sym, _∙_}
 use Rattle.records.specs.Phone.{decode, no-executable}
 use Rattle.rules.specs.Codes.{is-executable}
 use Rattle.lookup.specs.RoomForOne.{Passed}
-use Rattle.rules.proofs.Places.{place-next}
+use Rattle.laws.proofs.Places.{place-next}
 use Rattle.lookup.proofs.FoundSlot.{found-here, found-nowhere}
 use Rattle.lookup.proofs.executable_from.Statement.{statement}
 use Rattle.lookup.proofs.executable_from.Tie as tie

@@ -9,8 +9,8 @@ use lib.ListN.{length, drop}
 use Rattle.records.specs.Phone.{decode, no-executable}
 use Rattle.rules.specs.Words.{any, first-place}
 use Rattle.rules.specs.Codes.{is-executable}
-use Rattle.rules.proofs.Loops.{any-back, any-back-done, any-end}
-use Rattle.rules.proofs.Places.{place-back-here, place-back, place-back-done, place-back-end, somewhere}
+use Rattle.laws.proofs.Loops.{any-back, any-back-done, any-end}
+use Rattle.laws.proofs.Places.{place-back-here, place-back, place-back-done, place-back-end, somewhere}
 use Rattle.lookup.proofs.SweptRoom.{executable-taken, executable-full, executable-free}
 use Rattle.lookup.proofs.executable_room.Statement.{statement}
 use Rattle.lookup.proofs.executable_room.Tie as tie

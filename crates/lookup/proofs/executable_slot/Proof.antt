@@ -7,7 +7,7 @@ use mathlib.Core.Path.{_≡_, sym, _∙_}
 use Rattle.records.specs.Phone.{decode, no-executable}
 use Rattle.rules.specs.Codes.{is-executable}
 use Rattle.lookup.specs.RoomForOne.{Passed}
-use Rattle.rules.proofs.Places.{place-next, place-past}
+use Rattle.laws.proofs.Places.{place-next, place-past}
 use Rattle.lookup.proofs.FoundSlot.{found-here}
 use Rattle.lookup.proofs.executable_slot.Statement.{statement}
 use Rattle.lookup.proofs.executable_slot.Tie as tie

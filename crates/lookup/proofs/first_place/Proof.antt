@@ -7,7 +7,7 @@ use mathlib.Core.Path.{_≡_, sym, _∙_}
 use Rattle.records.specs.Phone.{decode, no-certificate}
 use Rattle.rules.specs.Codes.{has-id}
 use Rattle.lookup.specs.RoomForOne.{Passed}
-use Rattle.rules.proofs.Places.{place-here, place-next, place-end}
+use Rattle.laws.proofs.Places.{place-here, place-next, place-end}
 use Rattle.lookup.proofs.first_place.Statement.{statement}
 use Rattle.lookup.proofs.first_place.Tie as tie
 

@@ -10,7 +10,7 @@ use Rattle.records.specs.Phone.{decode, no-card}
 use Rattle.records.specs.declared.Card.{Card}
 use Rattle.rules.specs.Words.{any}
 use Rattle.rules.specs.ImageRules.{in-card-table}
-use Rattle.rules.proofs.Loops.{any-stops, any-goes-on, any-fails}
+use Rattle.laws.proofs.Loops.{any-stops, any-goes-on, any-fails}
 use Rattle.lookup.proofs.in_card_table.Statement.{statement}
 use Rattle.lookup.proofs.in_card_table.Tie as tie
 

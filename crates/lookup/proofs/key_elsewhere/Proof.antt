@@ -9,7 +9,7 @@ use Rattle.records.specs.Phone.{decode, no-certificate}
 use Rattle.records.specs.declared.Certificate.{Certificate}
 use Rattle.rules.specs.Words.{any}
 use Rattle.rules.specs.Codes.{in-another}
-use Rattle.rules.proofs.Loops.{any-stops, any-goes-on, any-fails}
+use Rattle.laws.proofs.Loops.{any-stops, any-goes-on, any-fails}
 use Rattle.lookup.proofs.key_elsewhere.Statement.{statement}
 use Rattle.lookup.proofs.key_elsewhere.Tie as tie
 

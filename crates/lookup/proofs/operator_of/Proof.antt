@@ -10,7 +10,7 @@ use Rattle.records.specs.Phone.{decode, no-card}
 use Rattle.records.specs.declared.Card.{Card}
 use Rattle.rules.specs.Words.{find}
 use Rattle.rules.specs.ImageRules.{operator-of}
-use Rattle.rules.proofs.Loops.{find-here, find-next, find-end}
+use Rattle.laws.proofs.Loops.{find-here, find-next, find-end}
 use Rattle.lookup.proofs.operator_of.Statement.{statement}
 use Rattle.lookup.proofs.operator_of.Tie as tie
 

@@ -1,5 +1,5 @@
 use Rattle.opening.proofs.Opens.{keeps-i6, keeps-i7, breaks-i6, breaks-i7, opens}
-use Rattle.rules.proofs.Accepts.{true-T}
+use Rattle.laws.proofs.Accepts.{true-T}
 use borrow.Author.Needs.{needs}
 use Rattle.opening.proofs.last_fault.Statement.{statement}
 use Rattle.opening.proofs.last_fault.Tie as tie

@@ -6,7 +6,7 @@ use lib.ListN.{length, drop}
 use Rattle.records.specs.Phone.{decode, no-certificate}
 use Rattle.rules.specs.Words.{any}
 use Rattle.rules.specs.Codes.{rival}
-use Rattle.rules.proofs.Loops.{any-stops, any-goes-on, any-fails}
+use Rattle.laws.proofs.Loops.{any-stops, any-goes-on, any-fails}
 use Rattle.certificates.proofs.decisions.has_rival.Statement.{statement}
 use Rattle.certificates.proofs.decisions.has_rival.Tie as tie
 

@@ -10,7 +10,7 @@ use Rattle.rules.specs.Words.{any}
 use Rattle.rules.specs.ImageRules.{third-party-root}
 use Rattle.rules.specs.Forms.{listed}
 use Rattle.rules.specs.Codes.{has-id, certificate-named, certificate-known}
-use Rattle.rules.proofs.Loops.{any-stops, any-goes-on, any-fails}
+use Rattle.laws.proofs.Loops.{any-stops, any-goes-on, any-fails}
 use Rattle.lookup.proofs.FoundSlot.{at-first, at-within}
 use Rattle.handling.proofs.Named.{certificate-here, certificate-missing, certificate-found}
 use Rattle.terms.proofs.Listed.{listed-length, listed-at, told-here, told-later, told-all}

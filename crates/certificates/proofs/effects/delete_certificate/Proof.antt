@@ -2,7 +2,7 @@ use mathlib.Core.Path.{refl}
 use borrow.Author.Needs.{needs}
 use Rattle.records.specs.Phone.{no-certificate}
 use Rattle.rules.specs.Effects.{delete-certificate}
-use Rattle.rules.proofs.Tables.{certificates}
+use Rattle.laws.proofs.Tables.{certificates}
 use Rattle.handling.proofs.SlotWrites.{write-is-change}
 use Rattle.certificates.proofs.effects.delete_certificate.Statement.{statement}
 use Rattle.certificates.proofs.effects.delete_certificate.Tie as tie

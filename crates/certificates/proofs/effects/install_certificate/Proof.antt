@@ -1,5 +1,5 @@
 use borrow.Author.Needs.{needs}
-use Rattle.rules.proofs.Tables.{certificates}
+use Rattle.laws.proofs.Tables.{certificates}
 use Rattle.handling.proofs.SlotWrites.{write-is-fill}
 use Rattle.certificates.proofs.effects.install_certificate.Statement.{statement}
 use Rattle.certificates.proofs.effects.install_certificate.Tie as tie

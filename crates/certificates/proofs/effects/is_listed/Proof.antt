@@ -8,7 +8,7 @@ use borrow.Author.Needs.{needs}
 use borrow.Author.Tests.{eq-eqb, ne-eqb}
 use Rattle.rules.specs.Words.{any}
 use Rattle.rules.specs.Forms.{eight, listed}
-use Rattle.rules.proofs.Loops.{any-stops, any-goes-on, any-fails}
+use Rattle.laws.proofs.Loops.{any-stops, any-goes-on, any-fails}
 use Rattle.certificates.proofs.effects.is_listed.Statement.{statement}
 use Rattle.certificates.proofs.effects.is_listed.Tie as tie
 

@@ -2,7 +2,7 @@ use mathlib.Core.Path.{refl}
 use borrow.Author.Needs.{needs}
 use Rattle.records.specs.Phone.{marked}
 use Rattle.rules.specs.Effects.{mark-invalid}
-use Rattle.rules.proofs.Tables.{certificates}
+use Rattle.laws.proofs.Tables.{certificates}
 use Rattle.handling.proofs.SlotWrites.{write-is-change}
 use Rattle.certificates.proofs.effects.mark_invalid.Statement.{statement}
 use Rattle.certificates.proofs.effects.mark_invalid.Tie as tie

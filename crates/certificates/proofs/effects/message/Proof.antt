@@ -10,8 +10,8 @@ use Rattle.rules.specs.Words.{any, at}
 use Rattle.rules.specs.ImageRules.{third-party-root}
 use Rattle.rules.specs.Effects.{enabled-by, message}
 use Rattle.chain.specs.Breaks.{disables}
-use Rattle.rules.proofs.Tables.{certificates}
-use Rattle.rules.proofs.SlotSweeps.{Sweeping, sweep-starts, sweep-goes-on, sweep-here, sweep-skips, sweep-said, gathers, gathers-none, gathered}
+use Rattle.laws.proofs.Tables.{certificates}
+use Rattle.laws.proofs.SlotSweeps.{Sweeping, sweep-starts, sweep-goes-on, sweep-here, sweep-skips, sweep-said, gathers, gathers-none, gathered}
 use Rattle.certificates.proofs.Enables.{enabled-written, enabled-skipped, disables-told, disables-none}
 use Rattle.certificates.proofs.effects.message.Statement.{statement}
 use Rattle.certificates.proofs.effects.message.Tie as tie

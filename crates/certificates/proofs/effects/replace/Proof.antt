@@ -1,7 +1,7 @@
 use mathlib.Core.Path.{ap, _∙_}
 use borrow.Author.Needs.{needs}
 use Rattle.rules.specs.Effects.{replaced, replace}
-use Rattle.rules.proofs.Tables.{certificates}
+use Rattle.laws.proofs.Tables.{certificates}
 use Rattle.handling.proofs.SlotWrites.{write-is-change}
 use Rattle.certificates.proofs.effects.replace.Statement.{statement}
 use Rattle.certificates.proofs.effects.replace.Tie as tie

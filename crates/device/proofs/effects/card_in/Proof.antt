@@ -2,7 +2,7 @@ use mathlib.Core.Path.{ap, _∙_}
 use borrow.Author.Needs.{needs}
 use Rattle.records.specs.Phone.{decode, encode, with-card}
 use Rattle.rules.specs.Effects.{card-rule, card-in}
-use Rattle.rules.proofs.Tables.{says, framed-as, sized-with-card}
+use Rattle.laws.proofs.Tables.{says, framed-as, sized-with-card}
 use Rattle.device.proofs.effects.card_in.Statement.{statement}
 use Rattle.device.proofs.effects.card_in.Tie as tie
 

@@ -2,7 +2,7 @@ use mathlib.Core.Path.{refl}
 use borrow.Author.Needs.{needs}
 use Rattle.records.specs.Phone.{no-executable}
 use Rattle.rules.specs.Effects.{delete-executable}
-use Rattle.rules.proofs.Tables.{executables}
+use Rattle.laws.proofs.Tables.{executables}
 use Rattle.handling.proofs.SlotWrites.{write-is-change}
 use Rattle.executables.proofs.effects.delete_executable.Statement.{statement}
 use Rattle.executables.proofs.effects.delete_executable.Tie as tie

@@ -1,5 +1,6 @@
 use borrow.Author.Needs.{needs}
-use Rattle.executables.proofs.ExecutableWrites.{permission-given}
+use Rattle.bits.specs.Bits.{set-bit}
+use Rattle.executables.proofs.ExecutableWrites.{permissions-written}
 use Rattle.executables.proofs.effects.give.Statement.{statement}
 use Rattle.executables.proofs.effects.give.Tie as tie
 
@@ -10,8 +11,8 @@ returns : tie.Need-returns
 returns c =
     let bit = c .before .before .before .before in
     let z = start bit in
-    permission-given (z .args .e) (z .pre .0) (z .pre .1 .0) (z .pre .1 .1 .0) (z .pre .1 .1 .1 .0)
-    (bit .before .before .executable .ensures) (bit .set-bit .ensures) (c .before .before .set-permissions .ensures)
+    permissions-written (z .args .e) (z .pre .0) (z .pre .1 .0) (z .pre .1 .1 .0) (z .pre .1 .1 .1 .0)
+    (bit .before .before .executable .ensures) set-bit (bit .set-bit .ensures) (c .before .before .set-permissions .ensures)
 
 pub give-spec : {M : Type 1} → statement M
 give-spec =

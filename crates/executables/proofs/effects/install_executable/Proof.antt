@@ -1,6 +1,6 @@
 use borrow.Author.Needs.{needs}
 use Rattle.rules.specs.Effects.{install-executable}
-use Rattle.rules.proofs.Tables.{executables}
+use Rattle.laws.proofs.Tables.{executables}
 use Rattle.handling.proofs.SlotWrites.{write-is-fill}
 use Rattle.executables.proofs.effects.install_executable.Statement.{statement}
 use Rattle.executables.proofs.effects.install_executable.Tie as tie

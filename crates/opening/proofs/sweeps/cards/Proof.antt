@@ -6,8 +6,8 @@ use mathlib.Core.Bool.{true}
 use mathlib.Core.Path.{_≡_, refl}
 use Rattle.records.specs.Phone.{decode, no-card}
 use Rattle.rules.specs.ImageRules.{cards-fit}
-use Rattle.rules.proofs.Lowest.{breaks-here, keeps-on, breaks-nowhere}
-use Rattle.rules.proofs.RulesGrow.{cards-grow}
+use Rattle.laws.proofs.Lowest.{breaks-here, keeps-on, breaks-nowhere}
+use Rattle.laws.proofs.RulesGrow.{cards-grow}
 use Rattle.opening.proofs.sweeps.cards.Statement.{statement}
 use Rattle.opening.proofs.sweeps.cards.Tie as tie
 

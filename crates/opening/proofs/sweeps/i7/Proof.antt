@@ -7,8 +7,8 @@ use mathlib.Core.Path.{_≡_, refl}
 use Rattle.records.specs.Phone.{decode, no-executable}
 use Rattle.rules.specs.ImageRules.{i7}
 use Rattle.rules.specs.Faults.{of-executables}
-use Rattle.rules.proofs.Lowest.{breaks-here, keeps-on, breaks-nowhere}
-use Rattle.rules.proofs.RulesGrow.{i7-grows}
+use Rattle.laws.proofs.Lowest.{breaks-here, keeps-on, breaks-nowhere}
+use Rattle.laws.proofs.RulesGrow.{i7-grows}
 use Rattle.opening.proofs.sweeps.i7.Statement.{statement}
 use Rattle.opening.proofs.sweeps.i7.Tie as tie
 

@@ -9,7 +9,7 @@ use mathlib.Core.Path.{_≡_, refl, sym, ap, _∙_}
 use Rattle.records.specs.Phone.{decode, no-certificate, certificate-at}
 use Rattle.rules.specs.Words.{all}
 use Rattle.rules.specs.Parts.{apart}
-use Rattle.rules.proofs.More.{all-grows, below-fails, below-goes-on, below-passes}
+use Rattle.laws.proofs.More.{all-grows, below-fails, below-goes-on, below-passes}
 use Rattle.opening.proofs.ByParts.{zero-apart, not-same}
 use Rattle.opening.proofs.sweeps.id_apart.Statement.{statement}
 use Rattle.opening.proofs.sweeps.id_apart.Tie as tie

@@ -6,7 +6,7 @@ use mathlib.Core.Path.{_≡_, refl}
 use lib.ListN.{length, drop}
 use Rattle.records.specs.Phone.{decode, no-certificate}
 use Rattle.rules.specs.Words.{any}
-use Rattle.rules.proofs.Loops.{any-stops, any-goes-on, any-fails}
+use Rattle.laws.proofs.Loops.{any-stops, any-goes-on, any-fails}
 use Rattle.explanations.specs.Why.{has-key}
 use Rattle.reasons.proofs.slots.is_held.Statement.{statement}
 use Rattle.reasons.proofs.slots.is_held.Tie as tie

@@ -8,7 +8,7 @@ use lib.Dec.{eqb}
 use lib.ListN.{drop}
 use Rattle.rules.specs.Words.{all}
 use Rattle.rules.specs.Forms.{listed}
-use Rattle.rules.proofs.Loops.{all-stops, all-goes-on, all-passes}
+use Rattle.laws.proofs.Loops.{all-stops, all-goes-on, all-passes}
 use Rattle.terms.proofs.Listed.{listed-length, listed-at}
 use Rattle.terms.proofs.forms.listed_not_zero.Statement.{statement}
 use Rattle.terms.proofs.forms.listed_not_zero.Tie as tie

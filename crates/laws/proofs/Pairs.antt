@@ -8,11 +8,11 @@ use lib.Dec.{T, eqb, eqb→eq}
 use Rattle.records.specs.Phone.{Seen, Trust}
 use Rattle.records.specs.declared.Certificate.{Certificate}
 use Rattle.records.specs.declared.Card.{Card}
 use Rattle.rules.specs.ImageRules.{operator-of, operator-root, valid-in, has-valid-operator, key-of-one-domain, card-owns}
 use Rattle.rules.specs.ImageRules.{one-in-place, not-both, owned-by-card, one-manufacturer}
-use Rattle.rules.proofs.Tests.{tests, eq→eqb, implies-out, implies-in}
-use Rattle.rules.proofs.Lists.{any-in}
-use Rattle.rules.proofs.Accepted.{Valid}
+use Rattle.laws.proofs.Tests.{tests, eq→eqb, implies-out, implies-in}
+use Rattle.laws.proofs.Lists.{any-in}
+use Rattle.laws.proofs.Accepted.{Valid}
 
 -- ---- I4
 

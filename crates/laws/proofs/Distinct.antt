@@ -5,9 +5,9 @@ use mathlib.Core.List.{List, [], _∷_, map, List·Memᴰ, List·Memᴰ·head, L
 use mathlib.Core.Logic.{_≢_, _⊎_, inl, inr}
 use mathlib.Core.Path.{_≡_, refl, sym, ap, _∙_}
 use lib.Dec.{T, eqb, T-not, eqb→eq}
 use Rattle.rules.specs.Words.{any, fill, distinct}
-use Rattle.rules.proofs.Tests.{tests, eq→eqb, or-cases, and-r, and-i, or-j, by-test, neqb→ne}
-use Rattle.rules.proofs.Lists.{any-in, none-in, fill-out}
+use Rattle.laws.proofs.Tests.{tests, eq→eqb, or-cases, and-r, and-i, or-j, by-test, neqb→ne}
+use Rattle.laws.proofs.Lists.{any-in, none-in, fill-out}
 
 module _ {A : Type 0} (i : A → ℕ) where
   -- one that is not 0 is not met again

@@ -8,10 +8,10 @@ use native.Mathlib.Omega.{arith}
 use lib.Dec.{T, T-not}
 use Rattle.records.specs.Phone.{Trust}
 use Rattle.records.specs.declared.Certificate.{Certificate}
 use Rattle.rules.specs.Words.{first}
 use Rattle.rules.specs.Chains.{chains-to, chain-domain}
-use Rattle.rules.proofs.Keys.{Key, by-root, by-issued}
-use Rattle.rules.proofs.Shortest.{chains-key, chains-signed}
+use Rattle.laws.proofs.Keys.{Key, by-root, by-issued}
+use Rattle.laws.proofs.Shortest.{chains-key, chains-signed}
 
 -- I4's rule on keys
 abbrev pub KeysApart : Trust → Type 0

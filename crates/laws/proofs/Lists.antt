@@ -4,8 +4,8 @@ use mathlib.Core.List.{List, [], _∷_, List·Memᴰ, List·Memᴰ·head, List·
 use mathlib.Core.Logic.{_⊎_, inl, inr}
 use mathlib.Core.Path.{_≡_, refl, subst, sym}
 use lib.Dec.{T, T-not, not-T}
 use Rattle.rules.specs.Words.{any, all, all-pairs, fill, find}
-use Rattle.rules.proofs.Tests.{or-i, or-j, or-cases, and-l, and-r, and-i}
+use Rattle.laws.proofs.Tests.{or-i, or-j, or-cases, and-l, and-r, and-i}
 
 -- some member passes the test
 pub record Some {A : Type 0} (f : A → Bool) (l : List A) : Type 0 where

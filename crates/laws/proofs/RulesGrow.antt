@@ -9,19 +9,19 @@ use lib.ListN.{length}
 use Rattle.records.specs.Phone.{Seen, Phone}
 use Rattle.records.specs.declared.Certificate.{Certificate}
 use Rattle.records.specs.declared.Card.{Card}
 use Rattle.rules.specs.declared.Fault.{Fault}
 use Rattle.rules.specs.Words.{_implies_, all, all-pairs}
 use Rattle.rules.specs.ImageRules.{known-place, slot-fits, card-fits, cards-fit, places-known, key-of-one-domain, card-owns, valid-in}
 use Rattle.rules.specs.ImageRules.{one-in-place, not-both, owned-by-card, one-manufacturer, executable-slot-fits, chained-fits}
 use Rattle.rules.specs.Parts.{apart, card-with, i4-with, i5-pair, i5-with, executable-with}
 use Rattle.rules.specs.ImageRules.{i2, i4, i5, i7, i8}
 use Rattle.rules.specs.Faults.{lowest, of-certificates, of-executables}
-use Rattle.rules.proofs.Tests.{same}
-use Rattle.rules.proofs.Accepts.{T-true, true-T}
-use Rattle.rules.proofs.Lists.{all-in}
-use Rattle.rules.proofs.Pairs.{key-out, key-in, in-place-out, in-place-in, not-both-in, manufacturer-out, manufacturer-in}
-use Rattle.rules.proofs.Lowest.{Grows, both-grow, grows-as, lowest-told}
-use Rattle.rules.proofs.More.{all-grows, all-and, pairs-grow, even-pairs-grow, distinct-grows}
+use Rattle.laws.proofs.Tests.{same}
+use Rattle.laws.proofs.Accepts.{T-true, true-T}
+use Rattle.laws.proofs.Lists.{all-in}
+use Rattle.laws.proofs.Pairs.{key-out, key-in, in-place-out, in-place-in, not-both-in, manufacturer-out, manufacturer-in}
+use Rattle.laws.proofs.Lowest.{Grows, both-grow, grows-as, lowest-told}
+use Rattle.laws.proofs.More.{all-grows, all-and, pairs-grow, even-pairs-grow, distinct-grows}
 
 -- ---- the tests of pairs: each certificate passes with itself, and three of the four are even
 

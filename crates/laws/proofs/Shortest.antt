@@ -9,12 +9,12 @@ use lib.Dec.{T, eqb, leb, leb→le, nleb→lt, eqb→eq}
 use lib.ListN.{length}
 use Rattle.records.specs.Phone.{Trust}
 use Rattle.records.specs.declared.Certificate.{Certificate}
 use Rattle.rules.specs.Words.{least}
 use Rattle.rules.specs.Explicit.{Chain, ends, goes-on, Chain-within, Shortest}
 use Rattle.rules.specs.Chains.{most-links, within, chains-to, links}
-use Rattle.rules.proofs.Tests.{neqb→ne, by-test}
-use Rattle.rules.proofs.Keys.{Key, by-root, by-issued, within-key, within-signed, key-within}
-use Rattle.rules.proofs.Least.{least-small, least-passes, least-least}
+use Rattle.laws.proofs.Tests.{neqb→ne, by-test}
+use Rattle.laws.proofs.Keys.{Key, by-root, by-issued, within-key, within-signed, key-within}
+use Rattle.laws.proofs.Least.{least-small, least-passes, least-least}
 
 -- ---- chains of at most n records are what is good within n
 

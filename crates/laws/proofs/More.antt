@@ -10,10 +10,10 @@ use borrow.Author.Tests.{not-true, not-false, ne-eqb}
 use lib.Dec.{eqb, eqb→eq}
 use lib.ListN.{length, getD, take}
 use lib.Seq.{take-suc}
 use Rattle.rules.specs.Words.{any, all, all-pairs, distinct}
 use Rattle.rules.specs.Parts.{apart}
-use Rattle.rules.proofs.Tests.{neqb→ne, by-test}
-use Rattle.rules.proofs.Lowest.{Grows}
+use Rattle.laws.proofs.Tests.{neqb→ne, by-test}
+use Rattle.laws.proofs.Lowest.{Grows}
 
 and-and : (a b c : Bool) → (a && (b && c)) ≡ ((a && b) && c)
 and-and true b c = refl

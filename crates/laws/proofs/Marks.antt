@@ -11,17 +11,17 @@ use lib.ListN.{getD}
 use Rattle.records.specs.Phone.{Phone, no-certificate, certificate-at, with-card, marked, enabling}
 use Rattle.records.specs.declared.Certificate.{Certificate}
 use Rattle.records.specs.declared.Event.{Event}
 use Rattle.rules.specs.Words.{at, change}
 use Rattle.rules.specs.ImageRules.{free-certificate, third-party-root}
 use Rattle.rules.specs.Forms.{new-certificate}
 use Rattle.rules.specs.Codes.{has-id, makes-valid, certificate-named}
 use Rattle.rules.specs.Effects.{phone-operator-root, retired, card-rule, tick, card-in, card-out, power-up, install-certificate}
 use Rattle.rules.specs.Effects.{delete-certificate, on-a-card, after-marking, mark-valid, mark-invalid, enabled-by, message}
-use Rattle.rules.specs.Effects.{install-executable, delete-executable, verify, give, withdraw, request, replaced, replace}
+use Rattle.rules.specs.Effects.{install-executable, delete-executable, verify, permit, request, replaced, replace}
 use Rattle.rules.specs.Effects.{effects, effect, settle, changed}
-use Rattle.rules.proofs.Tests.{by-test}
-use Rattle.rules.proofs.Accepts.{T-true}
-use Rattle.rules.proofs.Changes.{at-cases, map-at, change-at, fill-at}
+use Rattle.laws.proofs.Tests.{by-test}
+use Rattle.laws.proofs.Accepts.{T-true}
+use Rattle.laws.proofs.Changes.{at-cases, map-at, change-at, fill-at}
 
 -- every certificate changed by f
 mapped : (p q : Phone) (f : Certificate → Certificate) → q .trust .certificates ≡ map f (p .trust .certificates)
@@ -129,7 +129,7 @@ unfolding request
 by-none k e n p i h = inl h
 
 all-marks : Each Marks effects
-unfolding tick card-out install-executable delete-executable verify give withdraw request
+unfolding tick card-out install-executable delete-executable verify permit request
 all-marks = search (by-none, by-card-in, by-power-up, by-install, by-delete, by-mark-valid, by-mark-invalid, by-message, by-replace) depth 21
 
 -- ---- and so an event

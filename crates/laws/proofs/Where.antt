@@ -18,17 +18,17 @@ use Rattle.records.proofs.Wrong.{too-short}
 use Rattle.records.proofs.Joined.{getD-tabulate}
 use Rattle.records.proofs.Said.{length-certificates, length-cards, length-executables, length-table, certificate-said}
 use Rattle.records.proofs.FrameFacts.{fields}
 use Rattle.rules.specs.declared.Site.{Site}
 use Rattle.rules.specs.Words.{all, Check, _⇒_, first}
 use Rattle.rules.specs.ImageRules.{i2, i3, i4, i5, i6, i7, i8, broken, accepted, row-fits}
 use Rattle.rules.specs.ImageRules.{cards-fit, present-known, places-known, i1}
 use Rattle.rules.specs.Faults.{lowest, of-certificates, of-executables, i3-site, sites, at-rule, no-fault, fault, offset-of, fault-offset}
 use Rattle.rules.specs.FaultNames.{rules, is-right, i1-fields, Wrong-field, Lowest-at, Wrong-card, Within}
-use Rattle.rules.proofs.Tests.{and-l, and-r}
-use Rattle.rules.proofs.Accepts.{true-T}
-use Rattle.rules.proofs.Lowest.{Grows, lowest-below, lowest-with, lowest-told}
-use Rattle.rules.proofs.More.{all-grows}
-use Rattle.rules.proofs.RulesGrow.{i2-grows, i4-grows, i5-grows, i7-grows, i8-grows, cards-grow, places-grow}
+use Rattle.laws.proofs.Tests.{and-l, and-r}
+use Rattle.laws.proofs.Accepts.{true-T}
+use Rattle.laws.proofs.Lowest.{Grows, lowest-below, lowest-with, lowest-told}
+use Rattle.laws.proofs.More.{all-grows}
+use Rattle.laws.proofs.RulesGrow.{i2-grows, i4-grows, i5-grows, i7-grows, i8-grows, cards-grow, places-grow}
 
 -- ---- no fault exactly if accepted
 

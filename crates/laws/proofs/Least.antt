@@ -5,8 +5,8 @@ use mathlib.Core.Logic.{_≢_}
 use mathlib.Core.Path.{_≡_, refl, subst}
 use native.Mathlib.Omega.{arith}
 use lib.Dec.{T, T-not, eqb, eqb→eq}
 use Rattle.rules.specs.Words.{least}
-use Rattle.rules.proofs.Tests.{neqb→ne, by-test}
+use Rattle.laws.proofs.Tests.{neqb→ne, by-test}
 
 module _ (f : ℕ → Bool) where
   -- one more number to look at, after r was found among those below it

@@ -7,11 +7,11 @@ use mathlib.Core.Path.{_≡_, refl}
 use lib.Dec.{T}
 use Rattle.records.specs.Phone.{Trust}
 use Rattle.records.specs.declared.Certificate.{Certificate}
 use Rattle.rules.specs.Words.{any}
 use Rattle.rules.specs.Explicit.{Root, Issued}
 use Rattle.rules.specs.Chains.{trusted-root, link, serves, good, within}
-use Rattle.rules.proofs.Tests.{tests, or-cases}
-use Rattle.rules.proofs.Lists.{any-out, any-in}
+use Rattle.laws.proofs.Tests.{tests, or-cases}
+use Rattle.laws.proofs.Lists.{any-out, any-in}
 
 -- the key k of domain d is that of a good record within n
 abbrev pub served : ℕ → Trust → ℕ → ℕ → Bool

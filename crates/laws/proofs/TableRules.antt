@@ -8,9 +8,9 @@ use lib.ListN.{getD}
 use Rattle.records.specs.Layout.{row-byte}
 use Rattle.records.specs.Phone.{Phone, no-row, row-at}
 use Rattle.records.specs.declared.Row.{Row}
 use Rattle.rules.specs.ImageRules.{row-fits}
-use Rattle.rules.proofs.Tests.{tests}
-use Rattle.rules.proofs.Accepted.{Accepted}
+use Rattle.laws.proofs.Tests.{tests}
+use Rattle.laws.proofs.Accepted.{Accepted}
 
 -- the test, byte by byte
 record Fair (r : Row) : Type 0 where

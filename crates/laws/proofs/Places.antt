@@ -8,10 +8,10 @@ use native.Mathlib.Omega.{arith}
 use borrow.Author.Tests.{lt-ltb, le-ltb}
 use lib.Dec.{T, ltb, leb·suc-zero, leb·suc-suc}
 use lib.ListN.{length, getD, drop, drop-of-length-le}
 use Rattle.rules.specs.Words.{any, find, first-place}
-use Rattle.rules.proofs.Accepts.{T-true}
-use Rattle.rules.proofs.Loops.{rest}
-use Rattle.rules.proofs.Slots.{any-at}
+use Rattle.laws.proofs.Accepts.{T-true}
+use Rattle.laws.proofs.Loops.{rest}
+use Rattle.laws.proofs.Slots.{any-at}
 
 module _ {A : Type 0} (t : A → Bool) (d : A) (l : List A) (i : ℕ) where
   here : i < length l → t (getD l i d) ≡ true → first-place t (drop i l) ≡ 0

@@ -10,9 +10,9 @@ use Rattle.records.specs.Frame.{Sized, Framed}
 use Rattle.records.specs.declared.Certificate.{Certificate}
 use Rattle.records.specs.declared.Executable.{Executable}
 use Rattle.records.proofs.RoundTrip.{decode-encode, framed-encode}
 use Rattle.rules.specs.Words.{distinct}
-use Rattle.rules.proofs.Accepts.{accepted-out}
+use Rattle.laws.proofs.Accepts.{accepted-out}
 use Rattle.rules.specs.AcceptedImage.{Accepted-image}
 
 -- what the image of a phone q says, and that it is framed
 pub says : (q : Phone) {s : List ℕ} → s ≡ encode q → decode s ≡ q

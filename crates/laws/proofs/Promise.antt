@@ -8,12 +8,12 @@ use native.Mathlib.Omega.{arith}
 use Rattle.records.specs.Phone.{decode, no-certificate, no-executable}
 use Rattle.records.specs.declared.Certificate.{Certificate}
 use Rattle.records.specs.Frame.{Framed}
 use Rattle.rules.specs.ImageRules.{accepted}
 use Rattle.records.specs.declared.Executable.{Executable}
-use Rattle.rules.proofs.Accepted.{Occupied, Stored}
-use Rattle.rules.proofs.Accepts.{accepted-out}
+use Rattle.laws.proofs.Accepted.{Occupied, Stored}
+use Rattle.laws.proofs.Accepts.{accepted-out}
 use Rattle.rules.specs.AcceptedImage.{Accepted-image}
-use Rattle.rules.proofs.Slots.{at-each}
+use Rattle.laws.proofs.Slots.{at-each}
 
 pub executable-domain : {n : ℕ} (x : Executable) → (x ≡ no-executable) ⊎ Stored n x → x .domain ≤ 3
 executable-domain x (inl z) = let e : x .domain ≡ 0 = ap (λ y. y .domain) z in omega arith

@@ -9,12 +9,12 @@ use Rattle.records.specs.Phone.{no-certificate, no-executable}
 use Rattle.records.specs.declared.Certificate.{Certificate}
 use Rattle.records.specs.declared.Card.{Card}
 use Rattle.records.specs.declared.Executable.{Executable}
 use Rattle.rules.specs.Words.{_implies_, all-zero}
 use Rattle.rules.specs.ImageRules.{free-certificate, free-executable, zero-certificate, certificate-ranges, root-fits, issued-fits, recovery-fits}
 use Rattle.rules.specs.ImageRules.{certificate-fits, zero-executable, executable-fits}
 use Rattle.rules.specs.ImageRules.{slot-fits, card-fits, executable-slot-fits}
-use Rattle.rules.proofs.Tests.{tests, eq→eqb, neqb→ne, ne→neqb, and-i, or-i, or-cases, by-test, cond-no, yes-cond, no-cond, implies-out, implies-in}
-use Rattle.rules.proofs.Accepted.{Occupied, Named, Stored}
+use Rattle.laws.proofs.Tests.{tests, eq→eqb, neqb→ne, ne→neqb, and-i, or-i, or-cases, by-test, cond-no, yes-cond, no-cond, implies-out, implies-in}
+use Rattle.laws.proofs.Accepted.{Occupied, Named, Stored}
 
 -- orders among the tests
 ruleset ranges = (tests, leb→le, le→leb, ltb→lt, lt→ltb)

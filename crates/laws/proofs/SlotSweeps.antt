@@ -10,10 +10,10 @@ use lib.ListN.{length, getD, drop, set, length-set}
 use lib.Seq.{set-getD}
 use Rattle.records.specs.Phone.{Phone, decode, encode}
 use Rattle.records.specs.Frame.{Framed}
 use Rattle.rules.specs.Words.{any}
-use Rattle.rules.proofs.Loops.{any-rest, any-next, any-end}
+use Rattle.laws.proofs.Loops.{any-rest, any-next, any-end}
 use Rattle.rules.specs.Sweeping.{map-at, swept}
-use Rattle.rules.proofs.Tables.{Part, says, framed-as}
+use Rattle.laws.proofs.Tables.{Part, says, framed-as}
 
 -- ---- in a list
 

@@ -8,9 +8,9 @@ use native.Mathlib.Omega.{arith}
 use native.Mathlib.Nat.{le-of-suc-le-suc, not-suc-le-zero}
 use lib.Dec.{T, eqb}
 use lib.ListN.{getD, set, length}
 use Rattle.rules.specs.Words.{any, at, fill, find, distinct}
-use Rattle.rules.proofs.Tests.{eq→eqb, ne→neqb, or-i, or-j}
-use Rattle.rules.proofs.Distinct.{head-alone, tail-distinct}
+use Rattle.laws.proofs.Tests.{eq→eqb, ne→neqb, or-i, or-j}
+use Rattle.laws.proofs.Distinct.{head-alone, tail-distinct}
 
 module _ {A : Type 0} where
   pub mem-at : (l : List A) (k : ℕ) (d : A) → k < length l → List·Memᴰ (getD l k d) l
