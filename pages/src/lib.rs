@@ -10,6 +10,7 @@ pub mod lesson;
 pub mod page;
 pub mod picture;
 pub mod programs;
+pub mod reading;
 pub mod told;
 pub mod trouble;
 pub mod trust;

@@ -7,7 +7,8 @@ use std::io::{Read, Write};
 use std::process::ExitCode;
 
 use pages::programs::{command_words, Programs};
-use pages::told::{stream, tell, Told};
+use pages::reading::text_of;
+use pages::told::{refused, stream, tell, Told};
 use pages::trouble::Trouble;
 
 const HELP: &str = "\
@@ -16,14 +17,17 @@ Lessons in words: a lesson's text, run by the proved programs, and what they ans
 usage: pages lesson FILE --bench CMD --play CMD --why CMD
        pages page   FILE --bench CMD --play CMD --why CMD --vectors CMD
        pages stream FILE
+       pages refused FILE RULE OFFSET
 
   lesson  a line for each event of FILE: its number, the second, the event and the answer in words with
           its code; and the reasons under an answer that is a surprise
   page    one page in HTML of the same, with a picture of the phone at every moment
   stream  the bytes of FILE, as the programs bench and why read them; of a timeline, its events with the
-          clock events put in
+          clock events put in; nothing is run, so that it also says whether FILE can be read
+  refused what `lesson` says of FILE where a program refuses its image: the rule RULE, 1 to 8, at byte
+          OFFSET; exit status 1
 
-FILE is a lesson in words; - is standard input. CMD are the words that run a program: with blanks
+FILE is a lesson in words, in UTF-8; - is standard input. CMD are the words that run a program: with blanks
 between them, or one to a line where CMD has a line end. `./run lesson` and `./run page` give the commands
 of the proved programs.
 
@@ -72,6 +76,7 @@ fn run(arguments: &[String]) -> Result<Vec<u8>, Trouble> {
             let (name, text) = read(file_and_programs(rest)?.0)?;
             stream(&name, &text)
         }
+        Some((name, rest)) if name == "refused" => Err(image_refused(rest)),
         Some((name, _)) => Err(bad_usage(&format!("there is no sub-command `{name}`"))),
         None => Err(bad_usage("a sub-command is missing")),
     }
@@ -81,6 +86,20 @@ fn bad_usage(message: &str) -> Trouble {
     Trouble::unreadable(format!(
         "pages: {message}; `pages --help` says what there is"
     ))
+}
+
+/// What is told of the image of a file, or why nothing is.
+fn image_refused(arguments: &[String]) -> Trouble {
+    let [file, rule, offset] = arguments else {
+        return bad_usage("expected a file, a rule and an offset");
+    };
+    let (Ok(rule @ 1..=8), Ok(offset)) = (rule.parse(), offset.parse()) else {
+        return bad_usage(&format!("there is no rule {rule} at byte {offset}"));
+    };
+    match read(file) {
+        Ok((name, text)) => refused(&name, &text, rule, offset),
+        Err(trouble) => trouble,
+    }
 }
 
 fn told(arguments: &[String], pictures: bool) -> Result<Told, Trouble> {
@@ -129,10 +148,5 @@ fn read(file: &str) -> Result<(String, String), Trouble> {
     };
     let bytes = bytes
         .map_err(|error| Trouble::unreadable(format!("pages: cannot read {name}: {error}")))?;
-    match String::from_utf8(bytes) {
-        Ok(text) if !text.contains('\0') => Ok((name.to_string(), text)),
-        _ => Err(Trouble::unreadable(format!(
-            "{name} is bytes, and a lesson is text: `reference text` makes words of an image and events, and `reference text --timeline` of an image and a timeline (lessons/README.md)"
-        ))),
-    }
+    Ok((name.to_string(), text_of(name, &bytes)?))
 }

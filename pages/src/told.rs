@@ -3,7 +3,7 @@
 use reference::bench::{event_records, split_stream};
 use reference::events::{Event, CLOCK, REQUEST, VERIFY};
 use reference::phone::Phone;
-use reference::text::{to_placed_bytes, PlacedBytes};
+use reference::text::{event_names, to_placed_bytes, PlacedBytes, Wrong, FIRST_WORDS};
 use reference::timeline::{self, Record, Refused, Way};
 
 use crate::asking::{Asking, Question};
@@ -105,6 +105,14 @@ pub fn stream(file: &str, text: &str) -> Result<Vec<u8>, Trouble> {
     }
 }
 
+/// What is told of a lesson's text whose image a program refuses, by the rule and the byte that it names.
+pub fn refused(file: &str, text: &str, rule: u8, offset: usize) -> Trouble {
+    match Source::of(file, text) {
+        Ok(source) => source.image_refused(rule, offset),
+        Err(trouble) => trouble,
+    }
+}
+
 /// A lesson's text, and the bytes that it stands for.
 struct Source<'a> {
     file: &'a str,
@@ -114,8 +122,11 @@ struct Source<'a> {
 
 impl<'a> Source<'a> {
     fn of(file: &'a str, text: &'a str) -> Result<Source<'a>, Trouble> {
-        let placed = to_placed_bytes(text)
-            .map_err(|wrong| Trouble::unreadable(format!("{file}, {wrong}")))?;
+        let placed = to_placed_bytes(text).map_err(|wrong| cannot_be_read(file, &wrong))?;
+        if !has_image(text) {
+            let message = format!("{file}: there is no line 'phone'");
+            return Err(Trouble::unreadable(message));
+        }
         Ok(Source { file, text, placed })
     }
 
@@ -155,7 +166,7 @@ impl<'a> Source<'a> {
     /// What is told of an image that breaks a rule.
     fn image_refused(&self, rule: u8, offset: usize) -> Trouble {
         Trouble::refused(format!(
-            "{}: the image is refused (1), and no event is run: it breaks rule I{rule} at byte {offset}. The rule is that {}{}",
+            "{}: the image is refused (1), and no event is run: it breaks rule I{rule} at byte {offset}. The rule is that {}.{}\n{READ_ON}",
             self.place(offset),
             words::rule(rule),
             self.quoted(offset)
@@ -199,6 +210,30 @@ impl<'a> Source<'a> {
         }
         lines
     }
+}
+
+/// Where an author reads on about a refused image.
+const READ_ON: &str =
+    "lessons/tables.md has every rule, and lessons/wrong-image.md shows how an image is mended";
+
+/// What is told of a line that cannot be read. Where no line begins so, every event is named.
+fn cannot_be_read(file: &str, wrong: &Wrong) -> Trouble {
+    let mut message = format!("{file}, {wrong}");
+    if wrong.message.contains(FIRST_WORDS) {
+        let names: Vec<&str> = event_names().collect();
+        message += &format!(
+            "; the events are {} (lessons/tables.md has an example of each line)",
+            names.join(", ")
+        );
+    }
+    Trouble::unreadable(message)
+}
+
+/// Whether some line can be part of an image: the phone, or bytes.
+fn has_image(text: &str) -> bool {
+    let said = text.lines().filter_map(|line| line.split('#').next());
+    let mut first_words = said.filter_map(|line| line.split_whitespace().next());
+    first_words.any(|word| matches!(word, "phone" | "bytes"))
 }
 
 /// Where the event stands in a record of a timeline.

@@ -334,14 +334,14 @@ fn refusal(record: &[u8], number: u8, kind: u8, holder: Option<u8>) -> String {
 /// What an image rule asks, 1 to 8.
 pub fn rule(rule: u8) -> &'static str {
     match rule {
-        1 => "the header has its version, counts, offsets and length as they must be",
-        2 => "each certificate has an id and a key, and fields that fit its kind and domain",
-        3 => "cards have distinct numbers, and every card that is named is in the table",
-        4 => "certificates have distinct ids, no key is in two domains, and an operator root on a card is that operator's",
-        5 => "of each operator and of the manufacturer at most one root is valid where it counts",
-        6 => "untrusted applications may do no more than any others",
-        7 => "each application has an id of its own, a domain, and permissions only for actions that are there",
-        8 => "each application with a domain has a chain to a trusted root of it",
+        1 => "the header, 40 bytes, has version 1, at most 64 certificate slots, 8 cards and 64 application slots, 1 to 32 actions, a mode from 0 to 2 and a zero behind the card present; and that the tables of certificates, cards, applications and actions follow it in this order without a gap, each where the header says, up to the end of the image, which is as long as the header says",
+        2 => "each certificate is a free slot, all zero, or has an id and a key that are not 0, a kind from 0 to 2, a domain from 1 to 3, and a mark and an enabled of 0 or 1. A root has no verifying key, is on the phone if it is a manufacturer's, and enabled if it is no third party's; an issued one has a verifying key, and is marked valid and enabled; a recovery key is on the phone, an operator's or a manufacturer's, has no verifying key, and is enabled and not marked valid",
+        3 => "each card has a number that is not 0 and no other card has, and a zero behind it; and that the card present, and the card of each certificate that is on one, are in the table",
+        4 => "certificates have distinct ids, no two of different domains have the same key, and an operator root on a card has the card's operator as owner",
+        5 => "at most one operator root is valid on the phone and on each card; none on the phone while the present card has a valid one; with a card present, the one on the phone belongs to the card's operator; and at most one manufacturer root is valid. A root is valid that is marked valid and not past its date",
+        6 => "each action has 0 (never), 1 (ask) or 2 (free) for untrusted applications and for each of the three domains, and the number for untrusted ones is no larger than the others",
+        7 => "each application is a free slot, all zero, or has an id that is not 0 and no other application has, a domain from 0 to 3, a zero behind it, and permissions only for actions that are in the table",
+        8 => "each application with a domain is signed with the key of a certificate that chains to it: at most four certificates of that domain, all present and in date, each verified by the one before it, and the first a root that is marked valid and enabled",
         _ => "a rule that has no words",
     }
 }
@@ -413,6 +413,17 @@ mod tests {
     fn rules_have_words() {
         for number in 1..=8 {
             assert_ne!(rule(number), "a rule that has no words");
+            assert!(!rule(number).ends_with('.'));
+        }
+        // What 01 and its changes say of valid roots, clause by clause.
+        for clause in [
+            "at most one operator root is valid on the phone and on each card",
+            "none on the phone while the present card has a valid one",
+            "with a card present, the one on the phone belongs to the card's operator",
+            "at most one manufacturer root is valid",
+            "marked valid and not past its date",
+        ] {
+            assert!(rule(5).contains(clause), "{clause}");
         }
     }
 }

@@ -4,7 +4,7 @@ mod common;
 use common::{lessons, read, read_text, stand_ins};
 
 use pages::lesson::lines;
-use pages::told::{tell, Told, Trouble};
+use pages::told::{refused, stream, tell, Told, Trouble};
 
 fn told(name: &str, pictures: bool) -> Result<Told, Trouble> {
     let file = format!("lessons/{name}.txt");
@@ -118,6 +118,41 @@ fn a_refused_image_names_its_line() {
     let quoted =
         "    certificate 10 on card 2 root operator valid enabled key 2000 owner 600 expiry 1000";
     assert_eq!(said.next(), Some(quoted));
+    let read_on = said.next().expect("where to read on");
+    assert!(read_on.contains("lessons/tables.md") && read_on.contains("lessons/wrong-image.md"));
+    assert_eq!(said.next(), None);
+}
+
+/// `./run why` tells a refused image in the words of a lesson, by the rule and the byte of the program.
+#[test]
+fn a_refused_image_is_told_the_same_without_a_run() {
+    let told = told("wrong-image", false).expect_err("a refused image");
+    let file = "lessons/wrong-image.txt";
+    assert_eq!(refused(file, &read_text(file), 4, 88), told);
+    let trouble = refused("x.txt", "verfy\n", 4, 88);
+    assert_eq!(trouble.status, 2);
+}
+
+/// Two operator roots on the phone: one that is past its date does not count.
+#[test]
+fn a_second_valid_root_is_told_by_its_rule() {
+    let text = |expiry: u32| {
+        format!(
+            "phone mode 0 card none clock 100\n\
+             certificate 1 on phone root operator valid enabled key 1 owner 500 expiry 900\n\
+             certificate 2 on phone root operator valid enabled key 2 owner 600 expiry {expiry}\n\
+             action 0 untrusted never operator free manufacturer free third-party free\n"
+        )
+    };
+    let trouble = tell("x.txt", &text(100), &stand_ins(), false).expect_err("two valid roots");
+    assert_eq!(trouble.status, 1);
+    assert!(trouble
+        .message
+        .starts_with("x.txt, line 3: the image is refused (1)"));
+    assert!(trouble.message.contains(
+        "rule I5 at byte 64. The rule is that at most one operator root is valid on the phone and on each card;"
+    ));
+    assert!(tell("x.txt", &text(99), &stand_ins(), false).is_ok());
 }
 
 #[test]
@@ -132,11 +167,38 @@ fn a_header_names_the_line_of_the_phone() {
 
 #[test]
 fn an_image_that_is_cut_has_no_line_and_is_refused_all_the_same() {
-    for text in ["", "# nothing\n", "bytes 00 01\n", "card-out by device\n"] {
-        let trouble = tell("x.txt", text, &stand_ins(), true).expect_err("no image");
-        assert_eq!(trouble.status, 1, "{trouble}");
-        assert!(trouble.message.contains("rule I1"));
+    let trouble = tell("x.txt", "bytes 00 01\n", &stand_ins(), true).expect_err("no image");
+    assert_eq!(trouble.status, 1, "{trouble}");
+    assert!(trouble.message.contains("rule I1"));
+}
+
+#[test]
+fn a_text_without_a_phone_says_so() {
+    for text in [
+        "",
+        "\n\n",
+        "# nothing\n",
+        "# phone\n",
+        "card-out by device\n",
+        "timeline\n",
+    ] {
+        let told = tell("x.txt", text, &stand_ins(), true).expect_err("no image");
+        assert_eq!(told.status, 2, "{told}");
+        assert_eq!(told.message, "x.txt: there is no line 'phone'");
+        assert_eq!(stream("x.txt", text), Err(told));
     }
+}
+
+#[test]
+fn a_first_word_that_there_is_not_names_the_events() {
+    let text = read_text("lessons/worked-run.txt").replace("verify by", "verfy by");
+    let trouble = tell("x.txt", &text, &stand_ins(), false).expect_err("no such word");
+    assert_eq!(trouble.status, 2);
+    assert!(trouble
+        .message
+        .contains("found `verfy`; the events are clock, card-in, "));
+    assert!(trouble.message.contains(" verify, "));
+    assert!(trouble.message.contains("lessons/tables.md"));
 }
 
 #[test]

@@ -78,6 +78,14 @@ const EVENTS: Vocabulary = &[
     ("replace", REPLACE),
 ];
 
+/// What a line can begin with, as an error names it.
+pub const FIRST_WORDS: &str = "phone, certificate, card, executable, action, bytes, at or an event";
+
+/// The word that each kind of event begins with.
+pub fn event_names() -> impl Iterator<Item = &'static str> {
+    EVENTS.iter().map(|(word, _)| *word)
+}
+
 fn word_for(vocabulary: Vocabulary, number: u8) -> Option<&'static str> {
     vocabulary
         .iter()
@@ -821,8 +829,7 @@ fn read_event_line(line: &str) -> Result<Vec<u8>, Wrong> {
 
 fn read_event(words: &mut Words) -> Result<Vec<u8>, Wrong> {
     if word_is_strange(words) {
-        return words
-            .expected("phone, certificate, card, executable, action, bytes, at or an event");
+        return words.expected(FIRST_WORDS);
     }
     let mut event = Event {
         kind: words.one_of(EVENTS)?,
