@@ -29,15 +29,17 @@ extern "C" {
 /* ---- sizes and limits */
 
 /*
- * The largest image, an event, an answer of monitor_run, a line of monitor_why
- * and room for every line, the largest timeline, a record of it and room for
- * every event of monitor_timeline, in bytes.
+ * The largest image, an event, an answer of monitor_run, a line of monitor_why,
+ * room for every line and for the longest sentence with the 0 at its end, the
+ * largest timeline, a record of it and room for every event of
+ * monitor_timeline, in bytes.
  */
 #define MONITOR_IMAGE_MAX 2536
 #define MONITOR_EVENT_SIZE 24
 #define MONITOR_ANSWER_SIZE 6
 #define MONITOR_LINE_SIZE 3
 #define MONITOR_WHY_SIZE 192
+#define MONITOR_SENTENCE_SIZE 56
 #define MONITOR_TIMELINE_MAX 32008
 #define MONITOR_TIMED_SIZE 32
 #define MONITOR_EVENTS_SIZE 48000
@@ -421,6 +423,92 @@ uint64_t monitor_why(const uint8_t *image, size_t image_length, uint16_t id,
 uint64_t monitor_timeline(const uint8_t *image, size_t image_length,
                           const uint8_t *timeline, size_t timeline_length,
                           uint8_t *events, size_t events_length);
+
+/* ---- beside the library: functions that stand here whole, and are not proved */
+
+/*
+ * How long the image is that the bytes begin with, as its header tells: where
+ * the bytes are fewer, the rest is still to be read. Where the header tells a
+ * length that no image has, it is the header's own, and where the bytes are no
+ * whole header, theirs: monitor_open tells what is wrong with them.
+ */
+static inline size_t monitor_image_length(const uint8_t *bytes, size_t length)
+{
+    if (length < MONITOR_HEADER_SIZE)
+        return length;
+    size_t total = MONITOR_GET32(bytes + MONITOR_HEADER_TOTAL);
+    int is_length = total >= MONITOR_HEADER_SIZE && total <= MONITOR_IMAGE_MAX;
+    return is_length ? total : MONITOR_HEADER_SIZE;
+}
+
+/*
+ * The words for what a line says: # stands for its id, ^ for the id of the line
+ * above it, and ? for the number of what is said, where that has no words.
+ */
+static inline const char *monitor_said_words(uint8_t said, int is_first)
+{
+    switch (said) {
+    case MONITOR_SAID_LINK:
+        return is_first ? "certificate # is a trusted root"
+                        : "certificate # is verified by certificate ^";
+    case MONITOR_SAID_UNSIGNED:
+        return "application # is unsigned";
+    case MONITOR_SAID_UNHELD:
+        return "no certificate has the key of application #";
+    case MONITOR_SAID_UNTRUSTED:
+        return "application # is untrusted until it is verified";
+    case MONITOR_SAID_RECOVERY:
+        return "certificate # is a recovery key";
+    case MONITOR_SAID_ABSENT:
+        return "certificate # is on an absent card";
+    case MONITOR_SAID_INVALID:
+        return "certificate # is marked invalid";
+    case MONITOR_SAID_DISABLED:
+        return "certificate # is disabled";
+    case MONITOR_SAID_PAST:
+        return "certificate # is past its date";
+    case MONITOR_SAID_UNSERVED:
+        return "certificate # has no good signer within three links";
+    default:
+        return "? is said of #";
+    }
+}
+
+/* A number put at a place, by hand since not every program has stdio.h: the place behind it. */
+static inline char *monitor_put_number(char *at, unsigned number)
+{
+    if (number > 9)
+        at = monitor_put_number(at, number / 10);
+    *at = (char)('0' + number % 10);
+    return at + 1;
+}
+
+/*
+ * What a line of monitor_why says, in the words of the lessons and of the
+ * program why: of the lines, the one with this number, from 0 on. It looks at
+ * the line above, too, since a link of a chain is verified by that one; the
+ * first is the root. The sentence is written with a 0 at its end to a buffer of
+ * MONITOR_SENTENCE_SIZE bytes, and is what comes back.
+ */
+static inline const char *monitor_line_sentence(const uint8_t *lines, size_t number,
+                                                char *sentence)
+{
+    const uint8_t *line = lines + number * MONITOR_LINE_SIZE;
+    const char *words = monitor_said_words(MONITOR_LINE_SAID(line), number == 0);
+    char *at = sentence;
+    for (; *words != 0; words++) {
+        if (*words == '#')
+            at = monitor_put_number(at, MONITOR_LINE_ID(line));
+        else if (*words == '^')
+            at = monitor_put_number(at, MONITOR_LINE_ID(line - MONITOR_LINE_SIZE));
+        else if (*words == '?')
+            at = monitor_put_number(at, MONITOR_LINE_SAID(line));
+        else
+            *at++ = *words;
+    }
+    *at = 0;
+    return sentence;
+}
 
 #ifdef __cplusplus
 }

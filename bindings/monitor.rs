@@ -13,6 +13,8 @@
 // No program uses all of it.
 #![allow(dead_code)]
 
+use std::fmt;
+
 // ---- sizes and limits
 
 /// The largest image, in bytes.
@@ -25,6 +27,8 @@ pub const ANSWER_SIZE: usize = 6;
 pub const LINE_SIZE: usize = 3;
 /// Room for every line of an explanation, in bytes.
 pub const WHY_SIZE: usize = 192;
+/// Room for the longest sentence of a line with a 0 at its end, as C has it, in bytes.
+pub const SENTENCE_SIZE: usize = 56;
 /// The largest timeline, in bytes.
 pub const TIMELINE_MAX: usize = 32008;
 /// A record of a timeline, in bytes.
@@ -417,6 +421,13 @@ pub struct Fault {
     pub offset: u16,
 }
 
+impl fmt::Display for Fault {
+    fn fmt(&self, out: &mut fmt::Formatter<'_>) -> fmt::Result {
+        let Fault { rule, offset } = self;
+        write!(out, "the image breaks rule {rule} at byte {offset}")
+    }
+}
+
 /// What an event is told. Domain and links are 0 for every code but 0, rule and
 /// offset for every code but 1, where they are those of the image's `Fault`.
 #[derive(Clone, Copy, Debug, PartialEq, Eq)]
@@ -434,6 +445,41 @@ pub struct Answer {
 pub struct Line {
     pub said: u8,
     pub id: u16,
+}
+
+/// What a line says, in the words of the lessons and of the program `why`.
+#[derive(Clone, Copy, Debug, PartialEq, Eq)]
+pub struct Sentence {
+    pub line: Line,
+    /// The id of the line above, which verifies a link of a chain. The first, the root, has none.
+    pub above: Option<u16>,
+}
+
+impl fmt::Display for Sentence {
+    fn fmt(&self, out: &mut fmt::Formatter<'_>) -> fmt::Result {
+        let Line { said, id } = self.line;
+        match (said, self.above) {
+            (said::LINK, None) => write!(out, "certificate {id} is a trusted root"),
+            (said::LINK, Some(above)) => {
+                write!(out, "certificate {id} is verified by certificate {above}")
+            }
+            (said::UNSIGNED, _) => write!(out, "application {id} is unsigned"),
+            (said::UNHELD, _) => write!(out, "no certificate has the key of application {id}"),
+            (said::UNTRUSTED, _) => {
+                write!(out, "application {id} is untrusted until it is verified")
+            }
+            (said::RECOVERY, _) => write!(out, "certificate {id} is a recovery key"),
+            (said::ABSENT, _) => write!(out, "certificate {id} is on an absent card"),
+            (said::INVALID, _) => write!(out, "certificate {id} is marked invalid"),
+            (said::DISABLED, _) => write!(out, "certificate {id} is disabled"),
+            (said::PAST, _) => write!(out, "certificate {id} is past its date"),
+            (said::UNSERVED, _) => write!(
+                out,
+                "certificate {id} has no good signer within three links"
+            ),
+            _ => write!(out, "{said} is said of {id}"),
+        }
+    }
 }
 
 /// Why there is no explanation.
@@ -661,4 +707,29 @@ pub fn timeline_into(image: &[u8], timeline: &[u8], events: &mut [u8]) -> Result
         code::IMAGE => Err(Unplayed::Image(Fault { rule, offset })),
         _ => Err(Unplayed::Timeline),
     }
+}
+
+// ---- beside the library, and not proved
+
+/// How long the image is that the bytes begin with, as its header tells: where the bytes
+/// are fewer, the rest is still to be read. Where the header tells a length that no
+/// image has, it is the header's own, and where the bytes are no whole header, theirs:
+/// `open` tells what is wrong with them.
+pub fn image_length(bytes: &[u8]) -> usize {
+    let total = match bytes.get(header::TOTAL..HEADER_SIZE) {
+        Some(&[a, b, c, d]) => u32::from_be_bytes([a, b, c, d]) as usize,
+        _ => return bytes.len(),
+    };
+    match total {
+        HEADER_SIZE..=IMAGE_MAX => total,
+        _ => HEADER_SIZE,
+    }
+}
+
+/// The lines of an explanation in words, a sentence each.
+pub fn sentences(lines: impl IntoIterator<Item = Line>) -> impl Iterator<Item = Sentence> {
+    lines.into_iter().scan(None, |last, line| {
+        let above = last.replace(line.id);
+        Some(Sentence { line, above })
+    })
 }

@@ -7,24 +7,17 @@
 #[path = "../monitor.rs"]
 mod monitor;
 
-use monitor::{event, header, Fault, Unplayed, EVENT_SIZE, HEADER_SIZE, IMAGE_MAX};
+use monitor::{event, Unplayed, EVENT_SIZE};
 
 fn play(path: &str) -> Result<(), String> {
     let mut file = std::fs::read(path).map_err(|error| format!("{path}: {error}"))?;
 
-    // The header says how long the image is. Where it says what no image has, the rest is not read.
-    let total = match file.get(header::TOTAL..HEADER_SIZE) {
-        Some(&[a, b, c, d]) => u32::from_be_bytes([a, b, c, d]) as usize,
-        _ => 0,
-    };
-    let is_length = (HEADER_SIZE..=IMAGE_MAX).contains(&total);
-    let length = if is_length { total } else { HEADER_SIZE }.min(file.len());
+    // The header says how long the image is; the file can be shorter.
+    let length = monitor::image_length(&file).min(file.len());
     let (image, timeline) = file.split_at_mut(length);
 
     let events = monitor::timeline(image, timeline).map_err(|unplayed| match unplayed {
-        Unplayed::Image(Fault { rule, offset }) => {
-            format!("{path}: the image breaks rule {rule} at byte {offset}")
-        }
+        Unplayed::Image(fault) => format!("{path}: {fault}"),
         Unplayed::Timeline => format!("{path}: the timeline breaks its form"),
     })?;
     let answers = monitor::run(image, &events);
