@@ -285,6 +285,10 @@ pub struct Row {
 }
 
 /// Writes a field of four bytes.
+fn set16(bytes: &mut [u8], at: usize, number: u16) {
+    bytes[at..at + 2].copy_from_slice(&number.to_be_bytes());
+}
+
 fn set32(bytes: &mut [u8], at: usize, number: u32) {
     bytes[at..at + 4].copy_from_slice(&number.to_be_bytes());
 }
@@ -551,6 +555,10 @@ pub fn openings(slots: usize) -> Vec<Opening> {
         broken("open-all-signed", 0, 0, &|image| {
             sign_all_by_the_last(image, &frame)
         }),
+        broken("open-no-free-slot", 0, 0, &|image| {
+            fill(image, &frame);
+            sign_all_by_the_last(image, &frame);
+        }),
         broken("open-breaks-1", rule::HEADER, header::TOTAL, &|image| {
             image.push(0)
         }),
@@ -625,7 +633,29 @@ pub fn openings(slots: usize) -> Vec<Opening> {
                 sign_by_nobody(image, frame.executable(last));
             },
         ),
+        broken(
+            "open-breaks-8-last",
+            rule::CHAINS,
+            frame.executable(slots - 1),
+            &|image| {
+                fill(image, &frame);
+                sign_all_by_the_last(image, &frame);
+                sign_by_nobody(image, frame.executable(slots - 1));
+            },
+        ),
     ]
+}
+
+/// The two free slots of each table get the last record under ids of their own.
+fn fill(image: &mut [u8], frame: &Frame) {
+    for slot in frame.slots - 2..frame.slots {
+        let (from, to) = (frame.certificate(slot - 1), frame.certificate(slot));
+        image.copy_within(from..from + CERTIFICATE_SIZE, to);
+        set16(image, to + certificate::ID, 50_000 + slot as u16);
+        let (from, to) = (frame.executable(slot - 1), frame.executable(slot));
+        image.copy_within(from..from + EXECUTABLE_SIZE, to);
+        set16(image, to + executable::ID, 50_000 + slot as u16);
+    }
 }
 
 /// A third party executable with a key that nobody holds.

@@ -1,46 +1,102 @@
 -- An event on the certificate that it names: from the rows to its plan, and from the plan to the slot. Assumes nothing.
 use Prim.Native.Nat.{ℕ, _<_}
-use mathlib.Core.Bool.{Bool, true, false, not}
-use mathlib.Core.List.{List, _∷_, _++_}
+use mathlib.Core.Bool.{Bool, true, false, cond, not}
+use mathlib.Core.List.{List, [], _∷_, _++_}
 use mathlib.Core.Logic.{_≢_}
-use mathlib.Core.Path.{_≡_, refl, sym, subst}
+use mathlib.Core.Path.{_≡_, refl, sym, ap, subst, _∙_}
 use native.Mathlib.Omega.{arith}
-use lib.Dec.{T}
+use lib.Dec.{T, T-not, eqb}
 use lib.ListN.{length, getD, drop}
 use Rattle.records.specs.Phone.{Phone, certificate-at}
 use Rattle.records.specs.declared.Certificate.{Certificate}
 use Rattle.records.specs.declared.Event.{Event}
 use Rattle.rules.specs.Words.{Check, _⇒_, first, first-place}
+use Rattle.rules.specs.Chains.{present}
 use Rattle.rules.specs.Forms.{with-kind, forms, no-form, owned-form}
 use Rattle.rules.specs.Codes.{has-id, names-certificate, certificate-known, certificate-named, code-of}
 use Rattle.handling.specs.declared.Plan.{Plan}
-use Rattle.handling.specs.Plans.{plan, on-certificate, certificate-rows}
+use Rattle.handling.specs.Plans.{plan, on-certificate, allowed-rows, certificate-rows}
+use Rattle.laws.proofs.Tests.{and-l, and-r, eq→eqb, coded}
+use Rattle.handling.proofs.CodeRows.{none, here, next, gives}
 use Rattle.handling.proofs.Decided.{formed, refused-first, refused-next, on-next}
 use Rattle.lookup.proofs.FirstWithin.{first-within}
 use Rattle.handling.proofs.Handles.{named-id}
 use Rattle.handling.proofs.Named.{certificate-here}
 use Rattle.handling.proofs.PlanLaws.{on-code, on-slot, certificate-within}
-use Rattle.certificates.specs.Decisions.{certificate-plan}
+use Rattle.certificates.specs.Decisions.{allowed-plan, certificate-plan, if-present, On-a-slot, Present-at}
 use Rattle.certificates.proofs.CertificateCodes.{on-rows}
 
 abbrev place : Phone → Event → ℕ
 place p e = first-place (has-id (e .id)) (p .trust .certificates)
+
+known : (b : Bool) (l : List Check) → first ((not b ⇒ 3) ∷ l) ≡ 0 → b ≡ true
+unfolding first
+known true l z = refl
+known false l z = absurd (omega (arith, z))
+
+unbarred : (b : Bool) → first ((not b ⇒ 8) ∷ []) ≡ 0 → b ≡ true
+unfolding first
+unbarred true z = refl
+unbarred false z = absurd (omega (arith, z))
+
+-- where no row holds none of the last ones does
+past-last : (l m : List Check) → T (coded l) → first (l ++ m) ≡ 0 → first m ≡ 0
+unfolding first
+past-last [] m k z = z
+past-last ((true ⇒ c) ∷ l) m k z = absurd (T-not (eqb c 0) (and-l (not (eqb c 0)) (coded l) k) (eq→eqb c 0 z))
+past-last ((false ⇒ c) ∷ l) m k z = past-last l m (and-r (not (eqb c 0)) (coded l) k) z
+
+-- the rows of who is allowed have decided r
+module _ (k : ℕ) (nobody : Bool) (p : Phone) (e : Event) {r : Plan} (rows : r ≡ allowed-plan k nobody p e) where
+  abbrev allowed : List Check
+  allowed = allowed-rows k nobody p e
+
+  pub allowed-within : On-a-slot p r
+  unfolding certificate-known
+  allowed-within i on =
+      first-within (has-id (e .id)) (p .trust .certificates) (on-slot (first allowed) (place p e) rows on)
+      (known (certificate-known p (e .id)) (drop 1 allowed) (on-code (first allowed) (place p e) rows on))
+
+  -- and the certificate is present, or it is refused for that
+  abbrev there : Bool
+  there = present (p .trust .seen) (certificate-named p (e .id))
+
+  abbrev last : List Check
+  last = (not there ⇒ 8) ∷ []
+
+  placed : {i : ℕ} → r ≡ Plan.On i → (b : Bool) → there ≡ b → cond b (Plan.On i) (Plan.Refused 8) ≡ certificate-plan k nobody p e
+  placed on true h = on-next allowed last (place p e) rows tt on (gives (next (ap not h) none))
+  placed on false h = refused-next allowed last (place p e) rows tt on (λ z. omega (arith, z)) (gives (here (ap not h)))
+
+  pub then-present : {t : Plan} → t ≡ if-present p r → t ≡ certificate-plan k nobody p e
+  unfolding if-present
+  then-present q = q ∙ go r refl
+    where
+      go : (u : Plan) → r ≡ u → if-present p u ≡ certificate-plan k nobody p e
+      go (Plan.Refused c) u = refused-first allowed last (place p e) rows u
+      go (Plan.On i) u =
+          placed u (present (p .trust .seen) (certificate-at p i))
+          (ap (present (p .trust .seen)) (sym (certificate-here p (e .id) (on-slot (first allowed) (place p e) rows u) refl)))
 
 -- the rows on a certificate have decided that the event is on slot i
 module _ (k : ℕ) (nobody : Bool) (p : Phone) (e : Event) {r : Plan} (rows : r ≡ certificate-plan k nobody p e) {i : ℕ} (on : r ≡ Plan.On i) where
   slot : i ≡ place p e
   slot = on-slot (first (certificate-rows k nobody p e)) (place p e) rows on
 
-  known : (b : Bool) (l : List Check) → first ((not b ⇒ 3) ∷ l) ≡ 0 → b ≡ true
-  unfolding first
-  known true l z = refl
-  known false l z = absurd (omega (arith, z))
-
   pub row-within : i < length (p .trust .certificates)
   unfolding certificate-known
   row-within =
       first-within (has-id (e .id)) (p .trust .certificates) slot
       (known (certificate-known p (e .id)) (drop 1 (certificate-rows k nobody p e)) (on-code (first (certificate-rows k nobody p e)) (place p e) rows on))
+
+  pub row-present : Present-at p i
+  row-present =
+      record {
+        within = row-within;
+        there =
+            ap (present (p .trust .seen)) (certificate-here p (e .id) slot refl)
+            ∙ unbarred _ (past-last (allowed-rows k nobody p e) _ tt (on-code (first (certificate-rows k nobody p e)) (place p e) rows on));
+      }
 
   pub row-named : {c : Certificate} → c ≡ certificate-at p i → c ≡ certificate-named p (e .id)
   row-named = certificate-here p (e .id) slot

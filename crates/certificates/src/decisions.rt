@@ -8,15 +8,18 @@ use records::image;
 use terms::actors;
 use terms::forms;
 ghost use Prim.Native.Nat.{_<_, _≤_};
+ghost use mathlib.Core.Bool.{true};
 ghost use mathlib.Core.Path.{_≡_};
+ghost use lib.Dec.{T};
 ghost use Rattle.handling.specs.Plans.{on-certificate, for-certificate};
-ghost use Rattle.certificates.specs.Decisions.{of-other-card, of-other-operator, certificate-plan, listed-code};
-ghost use Rattle.certificates.specs.MarkingRows.{validity-rows, marking-rows, replacing-rows, replace-plan};
+ghost use Rattle.certificates.specs.Decisions.{of-other-card, of-other-operator, allowed-plan, if-present, On-a-slot, Present-at, listed-code};
+ghost use Rattle.certificates.specs.MarkingRows.{near-rival, validity-rows, marking-rows, replacing-rows, replace-plan};
 ghost use Rattle.rules.specs.AcceptedImage.{Accepted-image};
 ghost use Rattle.records.specs.Frame.{Framed};
-ghost use lib.ListN.{length};
 ghost use Rattle.records.specs.Phone.{decode, certificate-at};
-ghost use Rattle.rules.specs.Codes.{code-of, rival};
+ghost use Rattle.rules.specs.Chains.{present};
+ghost use Rattle.rules.specs.ImageRules.{slot-fits};
+ghost use Rattle.rules.specs.Codes.{code-of};
 ghost use Rattle.rules.specs.Forms.{with-kind};
 ghost use Rattle.rules.specs.Words.{any, first};
 
@@ -70,11 +73,11 @@ pub fn install_certificate(s: &[u8], e: Event) -> Plan
     }
 }
 
-// What stands against an event of a kind on the certificate that it names, besides its form; it may be that nobody is allowed.
-fn on_certificate(s: &[u8], e: Event, kind: u8, nobody: bool) -> Plan
+// What stands against an event of a kind on the certificate that it names, besides its form, as far as who is allowed; it may be that nobody is.
+fn allowed_on(s: &[u8], e: Event, kind: u8, nobody: bool) -> Plan
     requires { ⌜ Accepted-image (now s) ⌝ }
     requires { ⌜ (kind < 17) × (e .actor < 5) ⌝ }
-    ensures { λ r. ⌜ r ≡ certificate-plan kind nobody (decode (now (s .entry))) e ⌝ }
+    ensures { λ r. ⌜ r ≡ allowed-plan kind nobody (decode (now (s .entry))) e ⌝ }
 {
     match lookup::certificate_slot(s, e.id) {
         Found::Nowhere => Plan::Refused(3),
@@ -83,7 +86,21 @@ fn on_certificate(s: &[u8], e: Event, kind: u8, nobody: bool) -> Plan
             if !(actors::may_act(kind, c.domain, e.actor) & actors::acts_for(kind, e, c)) | nobody {
                 return Plan::Refused(4);
             }
-            if !terms::is_present(s, c) {
+            Plan::On(slot)
+        }
+    }
+}
+
+// And that it is present. By itself, so that both are small enough for the compiler to put them into their callers.
+fn if_present(s: &[u8], allowed: Plan) -> Plan
+    requires { ⌜ Framed (now s) ⌝ }
+    requires { ⌜ On-a-slot (decode (now s)) allowed ⌝ }
+    ensures { λ r. ⌜ r ≡ if-present (decode (now (s .entry))) allowed ⌝ }
+{
+    match allowed {
+        Plan::Refused(code) => Plan::Refused(code),
+        Plan::On(slot) => {
+            if !terms::is_present(s, image::certificate(s, slot)) {
                 return Plan::Refused(8);
             }
             Plan::On(slot)
@@ -100,40 +117,31 @@ pub fn delete_certificate(s: &[u8], e: Event) -> Plan
     if !forms::owned_form(e) {
         return Plan::Refused(2);
     }
-    on_certificate(s, e, Event::DELETE_CERTIFICATE, false)
+    if_present(s, allowed_on(s, e, Event::DELETE_CERTIFICATE, false))
 }
 
-// Whether x, valid, stands in the way of marking c valid. Most records are no valid roots, so that is asked first.
-fn is_rival(s: &[u8], c: Certificate, x: Certificate) -> bool
-    requires { ⌜ Framed (now s) ⌝ }
-    ensures { λ r. ⌜ r ≡ rival (decode (now (s .entry)) .trust .seen) c x ⌝ }
+// Whether x stands in the way of c being valid, a root that is present. What rules most records out is asked first; and nothing is asked of c alone,
+// which the compiler would make a sweep of its own for.
+fn is_rival(clock: u32, card: u16, c: Certificate, x: Certificate) -> bool
+    ensures { λ r. ⌜ r ≡ near-rival clock card c x ⌝ }
 {
-    if !terms::valid_root(image::clock(s), x) {
+    if !terms::valid_root(clock, x) {
         return false;
     }
-    if (x.id == c.id) | (x.domain != c.domain) {
+    if x.domain != c.domain {
         return false;
     }
-    if c.domain == records::MANUFACTURER {
-        return true;
-    }
-    if c.domain != records::OPERATOR {
-        return false;
-    }
-    if c.place == 0 {
-        return terms::is_present(s, x);
-    }
-    x.place == c.place
+    (x.id != c.id) & ((x.place == c.place) | (x.place == card))
 }
 
-fn has_rival(s: &[u8], c: Certificate) -> bool
+fn has_rival(s: &[u8], clock: u32, card: u16, c: Certificate) -> bool
     requires { ⌜ Framed (now s) ⌝ }
-    ensures { λ r. ⌜ r ≡ any (rival (decode (now (s .entry)) .trust .seen) c) (decode (now (s .entry)) .trust .certificates) ⌝ }
+    ensures { λ r. ⌜ r ≡ any (near-rival clock card c) (decode (now (s .entry)) .trust .certificates) ⌝ }
 {
     let slots = image::certificate_slots(s);
     let mut i: usize = 0;
     while i < slots {
-        if is_rival(s, c, image::certificate(s, i)) {
+        if is_rival(clock, card, c, image::certificate(s, i)) {
             return true;
         }
         i += 1;
@@ -153,21 +161,21 @@ fn of_other_operator(s: &[u8], c: Certificate) -> bool
     false
 }
 
-// What stands against the certificate in a slot being valid, besides its mark and its date: 0, or 11, 12 or 13. The slot is lent and not
-// the record, which two callers would each have to put together.
-fn judge_validity(s: &[u8], slot: usize) -> u8
-    requires { ⌜ Framed (now s) ⌝ }
-    requires { ⌜ slot < length (decode (now s) .trust .certificates) ⌝ }
-    ensures { λ r. ⌜ r ≡ first (validity-rows (decode (now (s .entry))) (certificate-at (decode (now (s .entry))) slot)) ⌝ }
+// What stands against c being valid, besides its mark and its date: 0, or 11, 12 or 13. The time, and whether it is of another operator, are lent
+// to it, so that it is small enough for the compiler to put it into both its callers.
+fn judge_validity(s: &[u8], clock: u32, c: Certificate, other: bool) -> u8
+    requires { ⌜ Accepted-image (now s) ⌝ }
+    requires { ⌜ (clock ≡ decode (now s) .trust .seen .clock) × (other ≡ of-other-operator (decode (now s)) c) ⌝ }
+    requires { ⌜ T (slot-fits c) × (present (decode (now s) .trust .seen) c ≡ true) ⌝ }
+    ensures { λ r. ⌜ r ≡ first (validity-rows (decode (now (s .entry))) c) ⌝ }
 {
-    let c = image::certificate(s, slot);
-    if of_other_operator(s, c) {
+    if other {
         return 11;
     }
     if c.kind != Certificate::ROOT {
         return 12;
     }
-    if has_rival(s, c) {
+    if (c.domain != records::THIRD_PARTY) & has_rival(s, clock, image::card_present(s), c) {
         return 13;
     }
     0
@@ -175,15 +183,19 @@ fn judge_validity(s: &[u8], slot: usize) -> u8
 
 // What stands against marking it valid: that, or 18.
 fn judge_marking(s: &[u8], slot: usize) -> u8
-    requires { ⌜ Framed (now s) ⌝ }
-    requires { ⌜ slot < length (decode (now s) .trust .certificates) ⌝ }
+    requires { ⌜ Accepted-image (now s) ⌝ }
+    requires { ⌜ Present-at (decode (now s)) slot ⌝ }
     ensures { λ r. ⌜ r ≡ first (marking-rows (decode (now (s .entry))) (certificate-at (decode (now (s .entry))) slot)) ⌝ }
 {
-    let told = judge_validity(s, slot);
+    let c = image::certificate(s, slot);
+    let clock = image::clock(s);
+    // Asked before it is told, while the record is at hand.
+    let dated = terms::in_date(clock, c);
+    let told = judge_validity(s, clock, c, of_other_operator(s, c));
     if told != 0 {
         return told;
     }
-    if !terms::in_date(image::clock(s), image::certificate(s, slot)) {
+    if !dated {
         return 18;
     }
     0
@@ -198,7 +210,7 @@ pub fn mark_valid(s: &[u8], e: Event) -> Plan
     if !forms::owned_form(e) {
         return Plan::Refused(2);
     }
-    match on_certificate(s, e, Event::MARK_VALID, false) {
+    match if_present(s, allowed_on(s, e, Event::MARK_VALID, false)) {
         Plan::Refused(code) => Plan::Refused(code),
         Plan::On(slot) => {
             let told = judge_marking(s, slot);
@@ -219,7 +231,7 @@ pub fn mark_invalid(s: &[u8], e: Event) -> Plan
     if !forms::owned_form(e) {
         return Plan::Refused(2);
     }
-    match on_certificate(s, e, Event::MARK_INVALID, false) {
+    match if_present(s, allowed_on(s, e, Event::MARK_INVALID, false)) {
         Plan::Refused(code) => Plan::Refused(code),
         Plan::On(slot) => {
             if image::certificate(s, slot).kind != Certificate::ROOT {
@@ -233,22 +245,23 @@ pub fn mark_invalid(s: &[u8], e: Event) -> Plan
 // What stands against replacing the root in a slot by record r: 0, or 10, what stands against it being valid, 17, or 18 by the date that
 // the event brings.
 fn judge_replacing(s: &[u8], e: Event, slot: usize, r: Certificate) -> u8
-    requires { ⌜ Framed (now s) ⌝ }
-    requires { ⌜ slot < length (decode (now s) .trust .certificates) ⌝ }
+    requires { ⌜ Accepted-image (now s) ⌝ }
+    requires { ⌜ Present-at (decode (now s)) slot ⌝ }
     ensures { λ b. ⌜ b ≡ first (replacing-rows (decode (now (s .entry))) e (certificate-at (decode (now (s .entry))) slot) r) ⌝ }
 {
     let c = image::certificate(s, slot);
     if lookup::key_elsewhere(s, e.key, c.domain) {
         return 10;
     }
-    let told = judge_validity(s, slot);
+    let clock = image::clock(s);
+    let told = judge_validity(s, clock, c, of_other_operator(s, c));
     if told != 0 {
         return told;
     }
     if !terms::may_replace(e, c, r) {
         return 17;
     }
-    if e.expiry < image::clock(s) {
+    if e.expiry < clock {
         return 18;
     }
     0
@@ -260,7 +273,10 @@ fn replace_by(s: &[u8], e: Event, r: Certificate) -> Plan
     requires { ⌜ e .actor < 5 ⌝ }
     ensures { λ b. ⌜ b ≡ replace-plan (decode (now (s .entry))) e r ⌝ }
 {
-    match on_certificate(s, e, Event::REPLACE, r.domain == records::THIRD_PARTY) {
+    match if_present(
+        s,
+        allowed_on(s, e, Event::REPLACE, r.domain == records::THIRD_PARTY),
+    ) {
         Plan::Refused(code) => Plan::Refused(code),
         Plan::On(slot) => {
             let told = judge_replacing(s, e, slot, r);

@@ -1,6 +1,6 @@
 -- A change that no executable loses its chain by: what chained still chains, so that there is nothing to settle. Assumes nothing.
 use Prim.Native.Nat.{ℕ}
-use mathlib.Core.Bool.{false, not, _&&_, _||_}
+use mathlib.Core.Bool.{false, not, _||_}
 use mathlib.Core.List.{List·Memᴰ, Memᴰ·map}
 use mathlib.Core.Logic.{_⊎_, inl, inr}
 use mathlib.Core.Path.{_≡_, refl, sym, ap, subst, _∙_}
@@ -23,9 +23,8 @@ use Rattle.laws.proofs.Changes.{at-cases}
 use Rattle.keeping.proofs.Order.{Fewer, fewer-chains}
 use Rattle.keeping.proofs.Narrowing.{Narrows, narrows-marked, narrows-refl, fewer-by, more-map}
 use Rattle.keeping.proofs.Narrowing.{more-filled, marking-widens}
-use Rattle.keeping.proofs.Settle.{map-id, settle-still, request-changed}
+use Rattle.keeping.proofs.Settle.{map-id, settle-still}
 use Rattle.chain.specs.Breaks.{disables, runs-out}
-use Rattle.keeping.proofs.Verified.{verify-effect, verify-changed}
 
 module _ (p : Phone) (ok : Accepted p) where
   -- a phone that trusts no fewer keys and has the same executables: each still chains

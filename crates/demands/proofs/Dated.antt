@@ -2,7 +2,7 @@
 use Prim.Native.Nat.{ℕ, _≤_}
 use mathlib.Core.Logic.{_↔_}
 use mathlib.Core.Path.{_≡_, refl}
-use lib.Dec.{T, leb, leb→le, le→leb}
+use lib.Dec.{T, leb→le, le→leb}
 use Rattle.records.specs.Phone.{Trust, Phone}
 use Rattle.records.specs.declared.Certificate.{Certificate}
 use Rattle.records.specs.declared.Event.{Event}

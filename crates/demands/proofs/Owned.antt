@@ -15,7 +15,7 @@ use Rattle.records.specs.declared.Event.{Event}
 use Rattle.rules.specs.Words.{between}
 use Rattle.rules.specs.Actors.{may-act, somebody, acts-for}
 use Rattle.rules.specs.Chains.{present, in-date, valid-root}
-use Rattle.rules.specs.ImageRules.{operator-of, operator-root, valid-in}
+use Rattle.rules.specs.ImageRules.{operator-of, valid-in}
 use Rattle.rules.specs.Codes.{certificate-named, subject, recovery-named, id-unknown, actor-barred, card-away, code-of}
 use Rattle.rules.specs.Forms.{forms, no-form, with-kind}
 use Rattle.rules.specs.Effects.{phone-operator-root, on-a-card, changed}

@@ -23,7 +23,7 @@ use Rattle.laws.proofs.Tests.{neqb→ne}
 use Rattle.laws.proofs.Accepted.{Accepted}
 use Rattle.laws.proofs.Accepts.{accepted-out}
 use Rattle.laws.proofs.Domain.{one-domain}
-use Rattle.explanations.specs.Why.{Line, holders, its-domain, its-chain, said-recovery, reasons, reason}
+use Rattle.explanations.specs.Why.{Line, holders, its-domain, its-chain, said-recovery, reason}
 use Rattle.explanations.specs.Why.{reason-line, untrusted-line, unsigned-line, unheld-line}
 use Rattle.explanations.specs.Why.{chained, unsigned, held, despite, chain-lines, reason-lines, explained, explanation}
 use Rattle.explanations.specs.Claims.{count, cases, Rising, Refusal, Lowest-each, Not-after}

@@ -1,7 +1,7 @@
 -- What is decided of an event before anything is written: its code, or the slot that it is about. Definitions only.
 use Prim.Native.Nat.{ℕ}
 use mathlib.Core.Bool.{Bool, cond, not, _&&_, _||_}
-use mathlib.Core.List.{List, [], _∷_}
+use mathlib.Core.List.{List, [], _∷_, _++_}
 use lib.Dec.{eqb}
 use Rattle.records.specs.Phone.{Phone}
 use Rattle.records.specs.declared.Event.{Event}
@@ -34,13 +34,16 @@ for-executable k p e = plan (code-of p (with-kind k e)) (first-place (is-executa
 
 -- ---- what stands against an event of kind k on the record that it names, besides its form
 
--- and where it may be that nobody is allowed
-abbrev pub certificate-rows : ℕ → Bool → Phone → Event → List Check
-certificate-rows k nobody p e =
+-- the certificate is known, and the actor is allowed to; it may be that nobody is
+abbrev pub allowed-rows : ℕ → Bool → Phone → Event → List Check
+allowed-rows k nobody p e =
     (not (certificate-known p (e .id)) ⇒ 3)
     ∷ (not (may-act k (certificate-named p (e .id) .domain) (e .actor) && acts-for (with-kind k e) (certificate-named p (e .id))) || nobody ⇒ 4)
-    ∷ (not (present (p .trust .seen) (certificate-named p (e .id))) ⇒ 8)
     ∷ []
+
+-- and it is present
+abbrev pub certificate-rows : ℕ → Bool → Phone → Event → List Check
+certificate-rows k nobody p e = allowed-rows k nobody p e ++ ((not (present (p .trust .seen) (certificate-named p (e .id))) ⇒ 8) ∷ [])
 
 abbrev pub executable-rows : ℕ → Phone → Event → List Check
 executable-rows k p e = (not (executable-known p (e .id)) ⇒ 3) ∷ (not (may-act k 0 (e .actor)) ⇒ 4) ∷ []

@@ -1,12 +1,11 @@
 -- A root that is replaced, where no other stands in its way, keeps the image rules I2 to I5. Assumes nothing.
-use Prim.Native.Nat.{ℕ}
-use mathlib.Core.Bool.{Bool, true, false, not, _&&_}
-use mathlib.Core.List.{List, map, List·Memᴰ, Memᴰ·of-map}
+use mathlib.Core.Bool.{not, _&&_}
+use mathlib.Core.List.{List, List·Memᴰ, Memᴰ·of-map}
 use mathlib.Core.Logic.{_≢_, _⊎_, inl, inr}
 use mathlib.Core.Path.{_≡_, refl, subst, sym, ap, _∙_}
 use native.Mathlib.Omega.{arith}
 use lib.Dec.{T, eqb→eq}
-use Rattle.records.specs.Phone.{Seen, Trust, no-certificate}
+use Rattle.records.specs.Phone.{Trust}
 use Rattle.records.specs.declared.Certificate.{Certificate}
 use Rattle.records.specs.declared.Card.{Card}
 use Rattle.records.specs.declared.Event.{Event}
@@ -17,11 +16,11 @@ use Rattle.rules.specs.Effects.{phone-operator-root, on-a-card, replaced}
 use Rattle.laws.proofs.Tests.{tests, neqb→ne}
 use Rattle.laws.proofs.Distinct.{distinct-map}
 use Rattle.laws.proofs.Changes.{at-cases}
-use Rattle.laws.proofs.Accepted.{Occupied, Valid, Held, Kept}
+use Rattle.laws.proofs.Accepted.{Occupied, Held, Kept}
 use Rattle.keeping.proofs.Done.{nand-i}
 use Rattle.keeping.proofs.CertificateChanges.{holding}
 use Rattle.keeping.proofs.CertificateMaps.{Slot}
-use Rattle.keeping.proofs.MarkValid.{Clear, Alike, Origin, chosen, left, each, maker, both, mine}
+use Rattle.keeping.proofs.MarkValid.{Clear, Origin, chosen, left, each, maker, both, mine}
 
 -- what an event that is done says of the root r that it replaces
 pub record Successor (cards : List Card) (t : Trust) (r : Certificate) (e : Event) : Type 0 where

@@ -21,7 +21,7 @@ use Rattle.records.proofs.FrameFacts.{fields}
 use Rattle.rules.specs.declared.Site.{Site}
 use Rattle.rules.specs.Words.{all, Check, _⇒_, first}
 use Rattle.rules.specs.ImageRules.{i2, i3, i4, i5, i6, i7, i8, broken, accepted, row-fits}
-use Rattle.rules.specs.ImageRules.{cards-fit, present-known, places-known, i1}
+use Rattle.rules.specs.ImageRules.{cards-fit, present-known, places-known}
 use Rattle.rules.specs.Faults.{lowest, of-certificates, of-executables, i3-site, sites, at-rule, no-fault, fault, offset-of, fault-offset}
 use Rattle.rules.specs.FaultNames.{rules, is-right, i1-fields, Wrong-field, Lowest-at, Wrong-card, Within}
 use Rattle.laws.proofs.Tests.{and-l, and-r}

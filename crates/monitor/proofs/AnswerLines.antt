@@ -18,12 +18,14 @@ use Rattle.rules.specs.ImageRules.{accepted, «open»}
 use Rattle.rules.specs.Faults.{fault, fault-offset}
 use Rattle.rules.specs.Step.{refusal}
 use Rattle.laws.proofs.Where.{accepted-no-fault, rule-known, offset-small}
+use Rattle.opening.specs.Opened.{opened}
+use Rattle.opening.proofs.Offsets.{opened-told}
 use Rattle.explanations.specs.Why.{Line, line, explanation}
 use Rattle.reasons.specs.declared.Why.{Why}
 use Rattle.reasons.specs.Lines.{line-size, line-bytes, most-lines, with-lines, why-code, lines-of, why, Explained}
 use Rattle.reasons.proofs.Room.{code-cases, lines-few}
-use Rattle.monitor.specs.Told.{packed, opened, told-code, told-rule, told-offset, why-packed, told-lines, line-from, line-at, Asked}
-use Rattle.monitor.proofs.Answers.{opened-told, open-one}
+use Rattle.monitor.specs.Told.{packed, told-code, told-rule, told-offset, why-packed, told-lines, line-from, line-at, Asked}
+use Rattle.monitor.proofs.Answers.{open-one}
 
 -- ---- the code that tells it
 

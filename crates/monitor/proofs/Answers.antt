@@ -16,7 +16,6 @@ use Rattle.records.specs.declared.Event.{Event}
 use Rattle.records.proofs.Joined.{read-joined}
 use Rattle.rules.specs.Words.{Check, _⇒_, first, find}
 use Rattle.rules.specs.ImageRules.{accepted, «open»}
-use Rattle.rules.specs.Faults.{fault, fault-offset}
 use Rattle.rules.specs.Chains.{most-links, links}
 use Rattle.rules.specs.Codes.{executable-named, rows, code}
 use Rattle.rules.specs.Effects.{changed}
@@ -26,13 +25,14 @@ use Rattle.laws.proofs.Tests.{and-l, and-r, eq→eqb}
 use Rattle.laws.proofs.Accepted.{Accepted}
 use Rattle.laws.proofs.Accepts.{accepted-out}
 use Rattle.laws.proofs.Shortest.{links-small}
-use Rattle.laws.proofs.Where.{accepted-no-fault, rule-known, offset-small}
+use Rattle.laws.proofs.Where.{rule-known, offset-small}
 use Rattle.keeping.specs.OneEvent.{event-of}
 use Rattle.keeping.proofs.Bytes.{step-cases, step-refused, refusal-cases, code-whole-out}
 use Rattle.keeping.proofs.AcceptedKept.{accepted-changed}
 use Rattle.keeping.proofs.EventAnswers.{zero-if}
 use Rattle.keeping.proofs.Naming.{small-domain}
-use Rattle.monitor.specs.Told.{packed, opened, told-code, told-domain, told-links, told-rule, told-offset}
+use Rattle.opening.specs.Opened.{opened}
+use Rattle.monitor.specs.Told.{packed, told-code, told-domain, told-links, told-rule, told-offset}
 use Rattle.monitor.specs.Told.{answer-size, answer-bytes, answer-from, answer-at, events-of}
 
 -- ---- every part is a byte, and the offset is two
@@ -144,16 +144,6 @@ module _ (l : List ℕ) where
       go : (b : Bool) → Small (cond b (refused 0) (refused-at l))
       go true = code-small 0 (omega arith)
       go false = fault-small l
-
-  -- accepted or not: an accepted image has no fault
-  pub opened-told : opened l ≡ record { code = «open» l; domain = 0; links = 0; rule = fault l .rule; offset = fault-offset l }
-  unfolding opened «open»
-  opened-told = go (accepted l) refl
-    where
-      go : (b : Bool) → accepted l ≡ b
-          → cond b (refused 0) (refused-at l) ≡ record { code = zero-if b; domain = 0; links = 0; rule = fault l .rule; offset = fault-offset l }
-      go true e = rw (accepted-no-fault l e) refl
-      go false e = refl
 
   pub opened-whole : accepted l ≡ true → opened l ≡ refused 0
   unfolding opened

@@ -17,7 +17,6 @@ use Rattle.records.specs.Phone.{joined}
 use Rattle.records.proofs.Puts.{put-next}
 use Rattle.rules.specs.declared.Answer.{Answer}
 use Rattle.rules.specs.declared.Fault.{Fault}
-use Rattle.rules.specs.ImageRules.{broken, accepted}
 use Rattle.rules.specs.Faults.{fault}
 use Rattle.rules.specs.Step.{refused-at, run, answers}
 use Rattle.laws.proofs.Tests.{by-test, neqb→ne}
@@ -26,7 +25,7 @@ use Rattle.rules.specs.AcceptedImage.{Accepted-image}
 use Rattle.events.specs.Stepped.{Stepped, Stepped-accepted}
 use Rattle.events.proofs.Steps.{broken-stepped}
 use Rattle.monitor.specs.Told as Told
-use Rattle.monitor.specs.Told.{packed, opened, answer-size, answer-bytes, events-of, event-count, answered, Followed}
+use Rattle.monitor.specs.Told.{packed, answer-size, answer-bytes, events-of, event-count, answered, Followed}
 
 -- ---- how many events there are, and the one that may be short
 
@@ -127,17 +126,6 @@ module _ (l₀ b out₀ : List ℕ) (n : ℕ) where
 
 pub packed-stepped : (l v : List ℕ) (r : ℕ) (a : Answer) (l′ : List ℕ) → r ≡ packed a → Stepped l v a l′ → Told.Stepped l v r l′
 packed-stepped l v r a l′ q s = record { answer = q ∙ ap packed (s .answer); image = s .image }
-
--- ---- opening
-
-module _ (l : List ℕ) (f : Fault) (e : f ≡ fault l) where
-  pub opened-broken : (r : ℕ) (a : Answer) → r ≡ packed a → a ≡ refused-at l → f .rule ≢ 0 → r ≡ packed (opened l)
-  unfolding opened accepted fault
-  opened-broken r a q t h = q ∙ ap packed (t ∙ rw (ne-eqb (broken l) 0 (λ z. h (ap (λ f. f .rule) e ∙ z))))
-
-  pub opened-whole : f .rule ≡ 0 → 0 ≡ packed (opened l)
-  unfolding opened accepted fault
-  opened-whole z = rw (eq-eqb (broken l) 0 (sym (ap (λ f. f .rule) e) ∙ z))
 
 -- ---- an image that is not accepted
 

@@ -23,6 +23,8 @@ use Rattle.rules.specs.Codes.{code}
 use Rattle.rules.specs.Step.{refused, step, run, answers}
 use Rattle.laws.proofs.Where.{no-fault-accepted, rule-known}
 use Rattle.keeping.proofs.EventAnswers.{answer-code, told-where, told-no-fault}
+use Rattle.opening.specs.Opened.{opened}
+use Rattle.opening.proofs.Offsets.{opened-told}
 use Rattle.explanations.specs.Why.{said-link, line, explanation}
 use Rattle.reasons.specs.Lines.{line-size, most-lines, with-lines, why-code, lines-of}
 use Rattle.reasons.proofs.Room.{lines-few, lines-some}
@@ -32,7 +34,7 @@ use Rattle.timeline.specs.Running.{in-turn}
 use Rattle.timeline.proofs.UnrollsTold.{no-events, events-none}
 use Rattle.timeline.proofs.Lengths.{events-few, events-whole}
 use Rattle.timeline.proofs.Theorems.{run-as-events}
-use Rattle.monitor.specs.Told.{packed, opened, told-code, told-domain, told-links, told-rule, told-offset, Stepped}
+use Rattle.monitor.specs.Told.{packed, told-code, told-domain, told-links, told-rule, told-offset, Stepped}
 use Rattle.monitor.specs.Told.{answer-size, answer-bytes, answer-at, events-of, event-count, answered, Ran}
 use Rattle.monitor.specs.Told.{why-packed, told-lines, line-at, Asked}
 use Rattle.monitor.specs.Told.{timeline-packed, told-events, event-at, Unrolled-for}
@@ -59,7 +61,7 @@ module _ (l : List ℕ) (r : ℕ) (o : r ≡ packed (opened l)) where
       × (told-offset r ≡ fault-offset l)
   open-read =
       let u = Answers.unpacked (opened l) (Answers.opened-small l) in
-      let t = Answers.opened-told l in
+      let t = opened-told l in
       rw o
       (u .0 ∙ ap (λ a. a .code) t, u .1 ∙ ap (λ a. a .domain) t, u .2 ∙ ap (λ a. a .links) t, u .3 ∙ ap (λ a. a .rule) t, u .4 ∙ ap (λ a. a .offset) t)
 

@@ -17,6 +17,8 @@ use Rattle.rules.specs.ImageRules.{accepted, «open»}
 use Rattle.rules.specs.Faults.{fault, fault-offset}
 use Rattle.rules.specs.Step.{run, answers}
 use Rattle.laws.proofs.Where.{rule-known, offset-small}
+use Rattle.opening.specs.Opened.{opened}
+use Rattle.opening.proofs.Offsets.{opened-told}
 use Rattle.timeline.specs.declared.Unrolled.{Unrolled}
 use Rattle.timeline.specs.Timeline.{timeline-code, timeline-events}
 use Rattle.timeline.specs.Unrolls.{room, with-events, unroll, Unrolls}
@@ -24,10 +26,10 @@ use Rattle.timeline.proofs.EventsPlaced.{Whole}
 use Rattle.timeline.proofs.UnrollsTold.{code-broken, events-none}
 use Rattle.timeline.proofs.Codes.{code-most}
 use Rattle.timeline.proofs.Lengths.{whole-take, length-whole, placed-within, events-few}
-use Rattle.monitor.specs.Told.{packed, opened, told-code, told-rule, told-offset, answer-size, answer-bytes, events-of, event-count, answered, Ran}
+use Rattle.monitor.specs.Told.{packed, told-code, told-rule, told-offset, answer-size, answer-bytes, events-of, Ran}
 use Rattle.monitor.specs.Told.{timeline-packed, told-events, event-at, Unrolled-for}
 use Rattle.monitor.proofs.RunLaws.{counted}
-use Rattle.monitor.proofs.Answers.{opened-told, open-one}
+use Rattle.monitor.proofs.Answers.{open-one}
 
 -- ---- the code that tells it
 

@@ -9,8 +9,7 @@ use Rattle.octets.specs.Octets.{put}
 use Rattle.records.specs.Sizes.{event-size}
 use Rattle.records.specs.Phone.{joined}
 use Rattle.rules.specs.declared.Answer.{Answer}
-use Rattle.rules.specs.Step.{refused, refused-at, step, run, answers}
-use Rattle.rules.specs.ImageRules.{accepted}
+use Rattle.rules.specs.Step.{step, run, answers}
 use Rattle.explanations.specs.Why.{Line, line}
 use Rattle.reasons.specs.declared.Why.{Why}
 use Rattle.reasons.specs.Lines.{line-size, with-lines, lines-of, why}
@@ -23,10 +22,6 @@ use Rattle.timeline.specs.Unrolls.{with-events, unroll}
 -- an answer as one number, from the low byte up: links, domain, code, rule, and two bytes of offset
 abbrev pub packed : Answer → ℕ
 packed a = (((a .offset * 256 + a .rule) * 256 + a .code) * 256 + a .domain) * 256 + a .links
-
--- "opening an image answers 0 or 1", and where it is wrong
-unfoldable pub opened : List ℕ → Answer
-opened l = cond (accepted l) (refused 0) (refused-at l)
 
 -- what a caller reads from it, by the macros of bindings/monitor.h: MONITOR_CODE, MONITOR_DOMAIN, MONITOR_LINKS and MONITOR_RULE,
 -- a shift by 16, by 8, by none and by 24 and then the lowest byte, and MONITOR_OFFSET, a shift by 32 and then the lowest two

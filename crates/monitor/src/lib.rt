@@ -11,10 +11,11 @@ ghost use Rattle.octets.specs.Octets.{put};
 ghost use Rattle.records.specs.Sizes.{event-size};
 ghost use Rattle.records.specs.Phone.{joined};
 ghost use Rattle.rules.specs.AcceptedImage.{Accepted-image};
+ghost use Rattle.opening.specs.Opened.{opened};
 ghost use Rattle.events.specs.Stepped.{Stepped-accepted};
 ghost use Rattle.reasons.specs.Lines.{most-lines};
 ghost use Rattle.timeline.specs.Timeline.{most-events};
-ghost use Rattle.monitor.specs.Told.{packed, opened, Stepped, answer-size, answer-bytes, event-count, answered, Followed, Ran};
+ghost use Rattle.monitor.specs.Told.{packed, Stepped, answer-size, answer-bytes, event-count, answered, Followed, Ran};
 ghost use Rattle.monitor.specs.Told.{why-packed, Asked, timeline-packed, Unrolled-for};
 
 const ANSWER_SIZE: usize = 6;
@@ -33,10 +34,7 @@ pub extern "C" fn monitor_open(image: &[u8]) -> u64
     ensures { λ r. ⌜ r ≡ packed (opened (now (image .entry))) ⌝ }
 {
     let fault = opening::open(image);
-    if fault.rule != 0 {
-        return pack(opening::refused_at(image, fault));
-    }
-    0
+    pack(opening::told(image, fault))
 }
 
 // One event: the answer as a number, from the low byte up links, domain, code, rule and two bytes of offset, and the image after it. Any bytes.

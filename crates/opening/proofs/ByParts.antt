@@ -6,7 +6,7 @@ use mathlib.Core.Logic.{_≢_}
 use mathlib.Core.Path.{_≡_, refl, sym, ap, _∙_}
 use native.Mathlib.Omega.{arith}
 use borrow.Author.Tests.{ne-eqb, not-true, not-false, lt-ltb, le-ltb}
-use lib.Dec.{T, eqb, ltb}
+use lib.Dec.{eqb, ltb}
 use lib.ListN.{length}
 use Rattle.records.specs.Phone.{Seen, Phone, no-certificate, no-card, no-executable, no-row}
 use Rattle.records.specs.declared.Certificate.{Certificate}

@@ -1,13 +1,15 @@
 -- What opening an image tells. Definitions only.
 use Prim.Native.Nat.{ℕ}
-use mathlib.Core.Bool.{true}
+use mathlib.Core.Bool.{true, cond}
 use mathlib.Core.List.{List}
 use mathlib.Core.Path.{_≡_}
 use Rattle.records.specs.Phone.{decode}
 use Rattle.records.specs.Frame.{framed}
-use Rattle.rules.specs.ImageRules.{i2, i3, i4, i5}
+use Rattle.rules.specs.ImageRules.{i2, i3, i4, i5, accepted}
 use Rattle.rules.specs.Faults.{fault}
+use Rattle.rules.specs.declared.Answer.{Answer}
 use Rattle.rules.specs.declared.Fault.{Fault}
+use Rattle.rules.specs.Step.{refused, refused-at}
 use Rattle.rules.specs.AcceptedImage.{Accepted-image}
 
 -- "Opening an image .. should also tell the first broken rule, 1 to 8, and a byte offset"
@@ -22,3 +24,7 @@ pub record Kept (l : List ℕ) : Type 0 where
   pub i3 : i3 (decode l) ≡ true
   pub i4 : i4 (decode l) ≡ true
   pub i5 : i5 (decode l) ≡ true
+
+-- "opening an image answers 0 or 1", and where it is wrong
+unfoldable pub opened : List ℕ → Answer
+opened l = cond (accepted l) (refused 0) (refused-at l)

@@ -1,14 +1,19 @@
 // Opening an image: the first of the rules I1 to I8 that is broken, and where. They are tested in their order, one small function a rule.
 mod sweeps;
 
+use records::Card;
+use records::Certificate;
+use records::Executable;
 use records::Header;
+use records::Row;
 use records::image;
 use rules::Answer;
 use rules::Fault;
 use rules::Site;
 ghost use mathlib.Core.Bool.{true, cond};
 ghost use mathlib.Core.Path.{_≡_};
-ghost use lib.Dec.{T, ltb};
+ghost use Prim.Native.Nat.{_+_, _*_};
+ghost use lib.Dec.{T, eqb, ltb};
 ghost use lib.ListN.{length};
 ghost use Rattle.records.specs.Phone.{decode};
 ghost use Rattle.records.specs.Frame.{framed, Framed};
@@ -16,7 +21,7 @@ ghost use Rattle.rules.specs.Words.{all};
 ghost use Rattle.rules.specs.ImageRules.{row-fits, i2, i3, i4, i5, i6, i7, i8};
 ghost use Rattle.rules.specs.Faults.{lowest, certificate-site, executable-site, i3-site, no-fault, at-rule, fault, fault-offset};
 ghost use Rattle.rules.specs.Step.{refused-at};
-ghost use Rattle.opening.specs.Opened.{Kept, Opened};
+ghost use Rattle.opening.specs.Opened.{Kept, Opened, opened};
 
 // ---- a record that breaks a rule, if there is one
 
@@ -201,21 +206,57 @@ pub fn open(s: &[u8]) -> Fault
     next_fault(s)
 }
 
-// ---- what is told of one that is broken
+// ---- what is told of it
+
+// Where the record of a site stands: which one it is of those of a size, from a byte on.
+struct Span {
+    at: usize,
+    size: usize,
+    index: usize,
+}
+
+// A byte of the header is one of those of size 1.
+fn span_of(s: &[u8], f: Fault) -> Span
+    requires { ⌜ f ≡ fault (now s) ⌝ }
+    ensures { λ r. ⌜ r .at + r .size * r .index ≡ fault-offset (now (s .entry)) ⌝ }
+{
+    let site = f.site;
+    match site {
+        Site::Header(byte) => Span {
+            at: 0,
+            size: 1,
+            index: byte,
+        },
+        Site::Certificate(i) => Span {
+            at: Header::SIZE,
+            size: Certificate::SIZE,
+            index: i,
+        },
+        Site::Card(i) => Span {
+            at: Header::cards_at(s) as usize,
+            size: Card::SIZE,
+            index: i,
+        },
+        Site::Executable(i) => Span {
+            at: Header::executables_at(s) as usize,
+            size: Executable::SIZE,
+            index: i,
+        },
+        Site::Row(i) => Span {
+            at: Header::table_at(s) as usize,
+            size: Row::SIZE,
+            index: i,
+        },
+    }
+}
 
 // The first byte of what is wrong.
 fn offset(s: &[u8], f: Fault) -> u16
     requires { ⌜ f ≡ fault (now s) ⌝ }
     ensures { λ r. ⌜ r ≡ fault-offset (now (s .entry)) ⌝ }
 {
-    let site = f.site;
-    match site {
-        Site::Header(byte) => byte as u16,
-        Site::Certificate(i) => image::certificate_offset(s, i),
-        Site::Card(i) => image::card_offset(s, i),
-        Site::Executable(i) => image::executable_offset(s, i),
-        Site::Row(i) => image::row_offset(s, i),
-    }
+    let here = span_of(s, f);
+    (here.at + here.size * here.index) as u16
 }
 
 // "code 1 as before; the answer gains two numbers".
@@ -225,6 +266,30 @@ pub fn refused_at(s: &[u8], f: Fault) -> Answer
 {
     Answer {
         code: 1,
+        domain: 0,
+        links: 0,
+        rule: f.rule,
+        offset: offset(s, f),
+    }
+}
+
+// "opening an image answers 0 or 1".
+fn code(rule: u8) -> u8
+    ensures { λ r. ⌜ r ≡ cond (eqb rule 0) 0 1 ⌝ }
+{
+    if rule == 0 {
+        return 0;
+    }
+    1
+}
+
+// What an image is told, accepted or not. Both are made in the same way, so that a refused one costs no more than an accepted one.
+pub fn told(s: &[u8], f: Fault) -> Answer
+    requires { ⌜ f ≡ fault (now s) ⌝ }
+    ensures { λ r. ⌜ r ≡ opened (now (s .entry)) ⌝ }
+{
+    Answer {
+        code: code(f.rule),
         domain: 0,
         links: 0,
         rule: f.rule,

@@ -1,15 +1,13 @@
 -- What a key chains to, by the first domain that it has links in. Assumes nothing.
 use Prim.Native.Nat.{ℕ}
-use mathlib.Core.Bool.{Bool, true, false, cond, not}
+use mathlib.Core.Bool.{Bool, true, false, not}
 use mathlib.Core.Logic.{_≢_}
 use mathlib.Core.Path.{_≡_, refl, sym, ap, _∙_}
 use native.Mathlib.Omega.{arith}
 use lib.Dec.{T, T-not}
 use Rattle.records.specs.Phone.{Trust}
-use Rattle.rules.specs.declared.Chained.{Chained}
 use Rattle.rules.specs.Words.{first}
 use Rattle.rules.specs.Chains.{chains-to, chain-domain, links, chain-of}
-use Rattle.laws.proofs.Tests.{by-test}
 use Rattle.laws.proofs.Shortest.{chains-signed, chains-chain, chain-chains, links-none}
 
 -- b where it cannot be false, and where it cannot be true

@@ -12,7 +12,6 @@ ghost use lib.ListN.{length};
 ghost use Rattle.records.specs.Sizes.{header-size, most-certificates, most-cards, most-executables, most-actions};
 ghost use Rattle.records.specs.Layout.{row-byte};
 ghost use Rattle.records.specs.Phone.{decode, encode, no-certificate, no-executable, certificate-at, card-at, executable-at, row-at};
-ghost use Rattle.records.specs.Phone.{certificate-offset, card-offset, executable-offset, row-offset};
 ghost use Rattle.records.specs.Phone.{with-clock, with-card, with-mode, put-certificate, put-executable, marked, enabling, in-domain, permitted};
 ghost use Rattle.records.specs.Frame.{framed, header-fits, part-fields, setting-fields, total-byte, first-wrong, header-fault, Framed};
 
@@ -258,40 +257,6 @@ pub fn table_byte(s: &[u8], i: usize, domain: u8) -> u8
         s,
         Header::table_at(s) as usize + i * Row::SIZE + domain as usize,
     )
-}
-
-// ---- the first byte of a record
-
-pub fn certificate_offset(s: &[u8], i: usize) -> u16
-    requires { ⌜ Framed (now s) ⌝ }
-    requires { ⌜ i < length (decode (now s) .trust .certificates) ⌝ }
-    ensures { λ r. ⌜ r ≡ certificate-offset i ⌝ }
-{
-    (Header::SIZE + i * Certificate::SIZE) as u16
-}
-
-pub fn card_offset(s: &[u8], i: usize) -> u16
-    requires { ⌜ Framed (now s) ⌝ }
-    requires { ⌜ i < length (decode (now s) .cards) ⌝ }
-    ensures { λ r. ⌜ r ≡ card-offset (decode (now (s .entry))) i ⌝ }
-{
-    (Header::cards_at(s) as usize + i * Card::SIZE) as u16
-}
-
-pub fn executable_offset(s: &[u8], i: usize) -> u16
-    requires { ⌜ Framed (now s) ⌝ }
-    requires { ⌜ i < length (decode (now s) .executables) ⌝ }
-    ensures { λ r. ⌜ r ≡ executable-offset (decode (now (s .entry))) i ⌝ }
-{
-    (Header::executables_at(s) as usize + i * Executable::SIZE) as u16
-}
-
-pub fn row_offset(s: &[u8], i: usize) -> u16
-    requires { ⌜ Framed (now s) ⌝ }
-    requires { ⌜ i < length (decode (now s) .table) ⌝ }
-    ensures { λ r. ⌜ r ≡ row-offset (decode (now (s .entry))) i ⌝ }
-{
-    (Header::table_at(s) as usize + i * Row::SIZE) as u16
 }
 
 // ---- changes

@@ -5,7 +5,7 @@ use mathlib.Core.List.{[], _∷_}
 use mathlib.Core.Path.{_≡_, refl, subst, sym, ap, ap₂, _∙_}
 use native.Mathlib.Omega.{arith}
 use borrow.Author.Tests.{le-leb, lt-leb, not-false}
-use lib.Dec.{T, eqb, leb, ltb, ltb→lt, leb→le, nleb→lt}
+use lib.Dec.{T, eqb, eqb→eq, leb, ltb, ltb→lt, leb→le, nleb→lt}
 use lib.ListN.{length}
 use Rattle.records.specs.Phone.{Phone}
 use Rattle.records.specs.declared.Certificate.{Certificate}
@@ -14,56 +14,66 @@ use Rattle.rules.specs.Words.{between, all, all-zero}
 use Rattle.rules.specs.ImageRules.{certificate-fits}
 use Rattle.rules.specs.Forms.{new-certificate, listed, unlisted, clock-form, card-form, id-form, message-form}
 use Rattle.rules.specs.Forms.{executable-form, action-form, owned-form, replace-form}
-use Rattle.terms.specs.Seldom.{rarely, seldom}
-use Rattle.laws.proofs.Tests.{and-l, and-r, by-test}
+use Rattle.terms.specs.Seldom.{two-bytes, four-bytes, rarely, seldom}
+use Rattle.laws.proofs.Tests.{and-l, and-r, by-test, eq→eqb, same}
 use Rattle.laws.proofs.Fits.{occupied-out}
 
--- ---- a form with all its unused fields as one sum: s is the sum of the fields that few kinds use
+-- ---- a form with all its unused fields as one number: b stands for the bytes, s for the sum of the long fields
 
-module _ (p : Phone) (e : Event) (s : ℕ) (q : s ≡ seldom e) where
-  pub clock-form-is : eqb (e .id + e .second + s) 0 ≡ clock-form p e
+-- two numbers, each of which is 0 where the other is
+same-zero : (m n : ℕ) → (m ≡ 0 → n ≡ 0) → (n ≡ 0 → m ≡ 0) → eqb m 0 ≡ eqb n 0
+same-zero m n f g = same (eqb m 0) (eqb n 0) (λ t. eq→eqb n 0 (f (eqb→eq m 0 t))) (λ t. eq→eqb m 0 (g (eqb→eq n 0 t)))
+
+module _ (p : Phone) (e : Event) {b s : ℕ} (q : b ≡ four-bytes e) (r : s ≡ seldom e) where
+  pub clock-form-is : eqb (e .id + b + s) 0 ≡ clock-form p e
   unfolding clock-form all-zero
   clock-form-is =
-      let z : e .id + e .second + s ≡ e .id + (e .second + (e .third + (e .fourth + (e .verifying + (e .owner + (e .expiry + 0)))))) = omega arith in
-      ap (λ n. eqb n 0) z
+      same-zero (e .id + b + s) (e .id + (e .second + (e .third + (e .fourth + (e .verifying + (e .owner + (e .expiry + 0)))))))
+      (λ z. omega arith) (λ z. omega arith)
 
-  pub card-form-is : eqb (e .id + e .key + s) 0 ≡ card-form p e
-  unfolding card-form all-zero
-  card-form-is =
-      let z : e .id + e .key + s ≡ e .id + (e .third + (e .fourth + (e .key + (e .verifying + (e .owner + (e .expiry + 0)))))) = omega arith in
-      ap (λ n. eqb n 0) z
-
-  pub id-form-is : (not (eqb (e .id) 0) && eqb (e .second + e .key + s) 0) ≡ id-form p e
+  pub id-form-is : (not (eqb (e .id) 0) && eqb (b + e .key + s) 0) ≡ id-form p e
   unfolding id-form all-zero
   id-form-is =
-      let z : e .second + e .key + s ≡ e .second + (e .third + (e .fourth + (e .key + (e .verifying + (e .owner + (e .expiry + 0)))))) = omega arith in
-      ap (λ n. not (eqb (e .id) 0) && eqb n 0) z
+      ap (λ t. not (eqb (e .id) 0) && t)
+      (same-zero (b + e .key + s) (e .second + (e .third + (e .fourth + (e .key + (e .verifying + (e .owner + (e .expiry + 0)))))))
+      (λ z. omega arith) (λ z. omega arith))
 
-  pub executable-form-is : (not (eqb (e .id) 0) && eqb (e .second + s) 0) ≡ executable-form p e
+  pub executable-form-is : (not (eqb (e .id) 0) && eqb (b + s) 0) ≡ executable-form p e
   unfolding executable-form all-zero
   executable-form-is =
-      let z : e .second + s ≡ e .second + (e .third + (e .fourth + (e .verifying + (e .owner + (e .expiry + 0))))) = omega arith in
-      ap (λ n. not (eqb (e .id) 0) && eqb n 0) z
+      ap (λ t. not (eqb (e .id) 0) && t)
+      (same-zero (b + s) (e .second + (e .third + (e .fourth + (e .verifying + (e .owner + (e .expiry + 0))))))
+      (λ z. omega arith) (λ z. omega arith))
 
-  pub action-form-is : (a : ℕ) → a ≡ length (p .table) → (not (eqb (e .id) 0) && ltb (e .second) a && eqb (e .key + s) 0) ≡ action-form p e
+module _ (p : Phone) (e : Event) {b s : ℕ} (q : b ≡ two-bytes e) (r : s ≡ seldom e) where
+  pub card-form-is : eqb (e .id + b + e .key + s) 0 ≡ card-form p e
+  unfolding card-form all-zero
+  card-form-is =
+      same-zero (e .id + b + e .key + s) (e .id + (e .third + (e .fourth + (e .key + (e .verifying + (e .owner + (e .expiry + 0)))))))
+      (λ z. omega arith) (λ z. omega arith)
+
+  pub action-form-is : {a : ℕ} → a ≡ length (p .table) → (not (eqb (e .id) 0) && ltb (e .second) a && eqb (b + e .key + s) 0) ≡ action-form p e
   unfolding action-form all-zero
-  action-form-is a r =
-      let z : e .key + s ≡ e .third + (e .fourth + (e .key + (e .verifying + (e .owner + (e .expiry + 0))))) = omega arith in
-      ap₂ (λ m n. not (eqb (e .id) 0) && ltb (e .second) m && eqb n 0) r z
+  action-form-is w =
+      ap₂ (λ m t. not (eqb (e .id) 0) && ltb (e .second) m && t) w
+      (same-zero (b + e .key + s) (e .third + (e .fourth + (e .key + (e .verifying + (e .owner + (e .expiry + 0))))))
+      (λ z. omega arith) (λ z. omega arith))
 
-pub owned-form-is : (p : Phone) (e : Event) (s : ℕ) (b : Bool) → s ≡ rarely e → b ≡ between 2 3 (e .actor)
-    → (not (eqb (e .id) 0) && eqb (e .second + e .key + s) 0 && (b || eqb (e .owner) 0)) ≡ owned-form p e
+pub owned-form-is : (p : Phone) (e : Event) {b s : ℕ} {o : Bool} → b ≡ four-bytes e → s ≡ rarely e → o ≡ between 2 3 (e .actor)
+    → (not (eqb (e .id) 0) && eqb (b + e .key + s) 0 && (o || eqb (e .owner) 0)) ≡ owned-form p e
 unfolding owned-form all-zero
-owned-form-is p e s b r q =
-    let z : e .second + e .key + s ≡ e .second + (e .third + (e .fourth + (e .key + (e .verifying + (e .expiry + 0))))) = omega arith in
-    ap₂ (λ n d. not (eqb (e .id) 0) && eqb n 0 && (d || eqb (e .owner) 0)) z q
+owned-form-is p e {b} {s} q r w =
+    ap₂ (λ t d. not (eqb (e .id) 0) && t && (d || eqb (e .owner) 0))
+    (same-zero (b + e .key + s) (e .second + (e .third + (e .fourth + (e .key + (e .verifying + (e .expiry + 0))))))
+    (λ z. omega arith) (λ z. omega arith))
+    w
 
-pub replace-form-is : (p : Phone) (e : Event)
-    → (not (eqb (e .id) 0) && not (eqb (e .second) 0) && not (eqb (e .key) 0) && eqb (e .third + e .fourth) 0) ≡ replace-form p e
+pub replace-form-is : (p : Phone) (e : Event) {b : ℕ} → b ≡ two-bytes e
+    → (not (eqb (e .id) 0) && not (eqb (e .second) 0) && not (eqb (e .key) 0) && eqb b 0) ≡ replace-form p e
 unfolding replace-form all-zero
-replace-form-is p e =
-    let z : e .third + e .fourth ≡ e .third + (e .fourth + 0) = omega arith in
-    ap (λ n. not (eqb (e .id) 0) && not (eqb (e .second) 0) && not (eqb (e .key) 0) && eqb n 0) z
+replace-form-is p e {b} q =
+    ap (λ t. not (eqb (e .id) 0) && not (eqb (e .second) 0) && not (eqb (e .key) 0) && t)
+    (same-zero b (e .third + (e .fourth + 0)) (λ z. omega arith) (λ z. omega arith))
 
 -- ---- what a form that fits is worth
 

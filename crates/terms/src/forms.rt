@@ -8,7 +8,7 @@ ghost use lib.Dec.{eqb};
 ghost use lib.ListN.{getD, length};
 ghost use mathlib.Core.Bool.{cond, not};
 ghost use mathlib.Core.Path.{_≡_};
-ghost use Rattle.terms.specs.Seldom.{rarely, seldom};
+ghost use Rattle.terms.specs.Seldom.{four-bytes, rarely, seldom, two-bytes};
 ghost use Rattle.records.specs.Phone.{Phone};
 ghost use Rattle.rules.specs.Effects.{replaced};
 ghost use Rattle.rules.specs.Forms.{action-form, card-form, clock-form, eight, executable-form, id-form, listed, message-form, new-certificate};
@@ -18,36 +18,50 @@ ghost use Rattle.rules.specs.Words.{all, all-zero};
 // How many numbers a message can list.
 const MOST: usize = Event::MOST_LISTED as usize;
 
-// The fields that hardly any kind uses, as a sum: 0 where each is.
-fn rarely(e: Event) -> u64
-    ensures { λ r. ⌜ (r ≡ rarely e) × (r ≤ 12000000000) ⌝ }
+// The two bytes of third and fourth as one number: 0 where each is.
+fn two_bytes(e: Event) -> u64
+    ensures { λ r. ⌜ (r ≡ two-bytes e) × (r ≤ 65535) ⌝ }
 {
-    e.third as u64 + e.fourth as u64 + e.verifying as u64 + e.expiry as u64
+    e.third as u64 * 256 + e.fourth as u64
 }
 
-// The fields that few kinds use, as a sum: 0 where each is.
-fn seldom(e: Event) -> u64
-    ensures { λ r. ⌜ (r ≡ seldom e) × (r ≤ 16000000000) ⌝ }
+// The four bytes from second to fourth as one number.
+fn four_bytes(e: Event) -> u64
+    ensures { λ r. ⌜ (r ≡ four-bytes e) × (r ≤ 4294967295) ⌝ }
 {
-    e.third as u64 + e.fourth as u64 + e.verifying as u64 + e.owner as u64 + e.expiry as u64
+    e.second as u64 * 65536 + two_bytes(e)
+}
+
+// The long fields that hardly any kind uses, as a sum: 0 where each is.
+fn rarely(e: Event) -> u64
+    ensures { λ r. ⌜ (r ≡ rarely e) × (r ≤ 9000000000) ⌝ }
+{
+    e.verifying as u64 + e.expiry as u64
+}
+
+// The long fields that few kinds use, as a sum: 0 where each is.
+fn seldom(e: Event) -> u64
+    ensures { λ r. ⌜ (r ≡ seldom e) × (r ≤ 13000000000) ⌝ }
+{
+    e.verifying as u64 + e.owner as u64 + e.expiry as u64
 }
 
 pub fn clock_form(e: Event) -> bool
     ensures { λ r. ⌜ ((p : Phone) → r ≡ clock-form p e) ⌝ }
 {
-    e.id as u64 + e.second as u64 + seldom(e) == 0
+    e.id as u64 + four_bytes(e) + seldom(e) == 0
 }
 
 pub fn card_form(e: Event) -> bool
     ensures { λ r. ⌜ ((p : Phone) → r ≡ card-form p e) ⌝ }
 {
-    e.id as u64 + e.key as u64 + seldom(e) == 0
+    e.id as u64 + two_bytes(e) + e.key as u64 + seldom(e) == 0
 }
 
 pub fn id_form(e: Event) -> bool
     ensures { λ r. ⌜ ((p : Phone) → r ≡ id-form p e) ⌝ }
 {
-    (e.id != 0) & (e.second as u64 + e.key as u64 + seldom(e) == 0)
+    (e.id != 0) & (four_bytes(e) + e.key as u64 + seldom(e) == 0)
 }
 
 // Of an event on a certificate: an operator or a manufacturer says who it is, and nobody else.
@@ -55,26 +69,26 @@ pub fn owned_form(e: Event) -> bool
     ensures { λ r. ⌜ ((p : Phone) → r ≡ owned-form p e) ⌝ }
 {
     (e.id != 0)
-        & (e.second as u64 + e.key as u64 + rarely(e) == 0)
+        & (four_bytes(e) + e.key as u64 + rarely(e) == 0)
         & (actors::is_somebody(e.actor) | (e.owner == 0))
 }
 
 pub fn executable_form(e: Event) -> bool
     ensures { λ r. ⌜ ((p : Phone) → r ≡ executable-form p e) ⌝ }
 {
-    (e.id != 0) & (e.second as u64 + seldom(e) == 0)
+    (e.id != 0) & (four_bytes(e) + seldom(e) == 0)
 }
 
 pub fn action_form(actions: usize, e: Event) -> bool
     ensures { λ r. ⌜ ((p : Phone) → actions ≡ length (p .table) → r ≡ action-form p e) ⌝ }
 {
-    (e.id != 0) & ((e.second as usize) < actions) & (e.key as u64 + seldom(e) == 0)
+    (e.id != 0) & ((e.second as usize) < actions) & (two_bytes(e) + e.key as u64 + seldom(e) == 0)
 }
 
 pub fn replace_form(e: Event) -> bool
     ensures { λ r. ⌜ ((p : Phone) → r ≡ replace-form p e) ⌝ }
 {
-    (e.id != 0) & (e.second != 0) & (e.key != 0) & (e.third as u64 + e.fourth as u64 == 0)
+    (e.id != 0) & (e.second != 0) & (e.key != 0) & (two_bytes(e) == 0)
 }
 
 // One of the eight numbers that a configuration message may list.

@@ -1,6 +1,5 @@
 -- Timelines computed: the worked run of 01 as one, and forms that are broken. Assumes nothing.
 use Prim.Native.Nat.{ℕ}
-use mathlib.Core.Bool.{true}
 use mathlib.Core.List.{List, [], _∷_, _++_, map}
 use mathlib.Core.Path.{_≡_, refl}
 use lib.ListN.{getD, take}
@@ -9,7 +8,6 @@ use Rattle.rules.specs.Step.{answers}
 use Rattle.rules.specs.Computing.{computing}
 use Rattle.rules.specs.WorkedRun.{image, events, lines}
 use Rattle.timeline.specs.Timeline.{timeline-framed, timed-fits, in-time, unrolled, timeline-code, timeline-events}
-use Rattle.timeline.specs.Running.{in-turn}
 
 -- a record of second s with event n of the run, counted from 0 on
 abbrev at-second : ℕ → ℕ → List ℕ

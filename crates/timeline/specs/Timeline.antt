@@ -9,7 +9,7 @@ use Rattle.records.specs.Sizes.{event-size}
 use Rattle.records.specs.Layout.{event-bytes}
 use Rattle.records.specs.Phone.{tabulate, decode}
 use Rattle.records.specs.declared.Event.{Event}
-use Rattle.rules.specs.Words.{Check, _⇒_, first}
+use Rattle.rules.specs.Words.{_⇒_, first}
 use Rattle.rules.specs.ImageRules.{accepted}
 
 -- "a header (u16 version = 1, u16 record count up to 1,000, u32 offset of the records, always 8) then exactly that many records of 32 bytes"

@@ -254,18 +254,6 @@ one-image-row κs a r r′ e e′ = returned
 pub one-image-table-byte : One-result Rattle.records.proofs.image.table_byte.Reads.Learnt
 one-image-table-byte κs a r r′ e e′ = returned
 
-pub one-image-certificate-offset : One-result Rattle.records.proofs.image.certificate_offset.Reads.Learnt
-one-image-certificate-offset κs a r r′ e e′ = returned
-
-pub one-image-card-offset : One-result Rattle.records.proofs.image.card_offset.Reads.Learnt
-one-image-card-offset κs a r r′ e e′ = returned
-
-pub one-image-executable-offset : One-result Rattle.records.proofs.image.executable_offset.Reads.Learnt
-one-image-executable-offset κs a r r′ e e′ = returned
-
-pub one-image-row-offset : One-result Rattle.records.proofs.image.row_offset.Reads.Learnt
-one-image-row-offset κs a r r′ e e′ = returned
-
 pub one-image-set-clock : One-outcome Rattle.records.proofs.image.set_clock.Reads.Learnt (λ e. e .0 .now ∷ [])
 one-image-set-clock κs a r r′ e e′ = written
 

@@ -3,8 +3,8 @@ use Rattle.stream.proofs.LinePlaces.{line-within}
 use native.Mathlib.Omega.{arith}
 use mathlib.Core.Path.{sym, _≡_}
 use lib.Seq.{length-take-le}
-use lib.ListN.{length, getD}
-use Prim.Native.Nat.{_+_, _-_, _≤_}
+use lib.ListN.{length}
+use Prim.Native.Nat.{_-_, _≤_}
 use Rattle.rules.specs.AcceptedImage.{Accepted-image}
 use Rattle.bench.proofs.all_events.Statement.{statement}
 use Rattle.bench.proofs.all_events.Tie as tie

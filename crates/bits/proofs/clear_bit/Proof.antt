@@ -2,8 +2,6 @@ use borrow.Author.Needs.{needs}
 use Rattle.bits.proofs.BitLaws.{and-put}
 use Rattle.bits.proofs.clear_bit.Statement.{statement}
 use Rattle.bits.proofs.clear_bit.Tie as tie
-use Rattle.bits.proofs.clear_bit.Reads as reads
-use Rattle.bits.proofs.clear_bit.Lts as lts
 
 -- src/lib.rt:27:11
 -- src/lib.rt:23:1

@@ -6,8 +6,6 @@ use lib.Bits.{and-mask}
 use Rattle.bits.specs.Bits.{digit}
 use Rattle.bits.proofs.has_bit.Statement.{statement}
 use Rattle.bits.proofs.has_bit.Tie as tie
-use Rattle.bits.proofs.has_bit.Reads as reads
-use Rattle.bits.proofs.has_bit.Lts as lts
 
 -- src/lib.rt:11:6
 -- src/lib.rt:7:1

@@ -2,8 +2,6 @@ use borrow.Author.Needs.{needs}
 use Rattle.bits.proofs.BitLaws.{or-put}
 use Rattle.bits.proofs.set_bit.Statement.{statement}
 use Rattle.bits.proofs.set_bit.Tie as tie
-use Rattle.bits.proofs.set_bit.Reads as reads
-use Rattle.bits.proofs.set_bit.Lts as lts
 
 -- src/lib.rt:19:9
 -- src/lib.rt:15:1

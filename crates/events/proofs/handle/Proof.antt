@@ -1,6 +1,5 @@
 use mathlib.Core.Logic.{⊎-elim}
 use native.Mathlib.Omega.{arith}
-use Rattle.records.specs.Layout.{event-read}
 use Rattle.events.proofs.Steps.{low-actor, read-of-kind, no-such-kind, kind-zero, no-such-actor}
 use borrow.Author.Needs.{needs}
 use Rattle.events.proofs.handle.Statement.{statement}

@@ -1,5 +1,6 @@
-use Rattle.monitor.proofs.RunLaws.{opened-broken, opened-whole}
+use mathlib.Core.Path.{ap, _∙_}
 use borrow.Author.Needs.{needs}
+use Rattle.monitor.specs.Told.{packed}
 use Rattle.monitor.proofs.monitor_open.Statement.{statement}
 use Rattle.monitor.proofs.monitor_open.Tie as tie
 
@@ -8,4 +9,4 @@ monitor-open-spec =
     tie.close
     (tie.spec
     (λ c κs. search needs) (λ c κs. search needs) (λ c κs. search needs)
-    (λ c. search (needs, opened-broken)) (λ c. search (needs, opened-whole)))
+    (λ c. c .pack .ensures ∙ ap packed (c .before .told .ensures)))

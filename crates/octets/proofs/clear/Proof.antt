@@ -7,9 +7,6 @@ use Rattle.octets.specs.Octets.{put, zeros}
 use Rattle.octets.proofs.ByteLaws.{put-none, zeros-next}
 use Rattle.octets.proofs.clear.Statement.{statement}
 use Rattle.octets.proofs.clear.Tie as tie
-use Rattle.octets.proofs.clear.Reads as reads
-use Rattle.octets.proofs.clear.Lts as lts
-use Rattle.octets.proofs.store.Reads as store-reads
 
 abbrev Inv-loop : tie.InvT-loop
 Inv-loop s₀ i n k₀ s k = (k ≤ n) × (length s ≡ length s₀) × (s ≡ put s₀ i (zeros k))

@@ -2,9 +2,6 @@ use Rattle.octets.specs.Octets.{be}
 use borrow.Author.Needs.{needs}
 use Rattle.octets.proofs.read16.Statement.{statement}
 use Rattle.octets.proofs.read16.Tie as tie
-use Rattle.octets.proofs.read16.Reads as reads
-use Rattle.octets.proofs.read16.Lts as lts
-use Rattle.octets.proofs.wide16.Reads as wide16-reads
 
 -- src/lib.rt:32:12
 -- src/lib.rt:32:5

@@ -2,9 +2,6 @@ use Rattle.octets.specs.Octets.{be}
 use borrow.Author.Needs.{needs}
 use Rattle.octets.proofs.read32.Statement.{statement}
 use Rattle.octets.proofs.read32.Tie as tie
-use Rattle.octets.proofs.read32.Reads as reads
-use Rattle.octets.proofs.read32.Lts as lts
-use Rattle.octets.proofs.wide32.Reads as wide32-reads
 
 -- src/lib.rt:40:14
 -- src/lib.rt:40:7

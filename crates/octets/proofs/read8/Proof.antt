@@ -2,8 +2,6 @@ use Rattle.octets.specs.Octets.{be}
 use borrow.Author.Needs.{needs}
 use Rattle.octets.proofs.read8.Statement.{statement}
 use Rattle.octets.proofs.read8.Tie as tie
-use Rattle.octets.proofs.read8.Reads as reads
-use Rattle.octets.proofs.read8.Lts as lts
 
 -- src/lib.rt:24:5
 -- src/lib.rt:20:1

@@ -4,9 +4,6 @@ use native.Mathlib.Omega.{arith}
 use borrow.Author.Needs.{needs}
 use Rattle.octets.proofs.write16.Statement.{statement}
 use Rattle.octets.proofs.write16.Tie as tie
-use Rattle.octets.proofs.write16.Reads as reads
-use Rattle.octets.proofs.write16.Lts as lts
-use Rattle.octets.proofs.store.Reads as store-reads
 
 returns : tie.Need-returns
 returns c =

@@ -4,9 +4,6 @@ use native.Mathlib.Omega.{arith}
 use borrow.Author.Needs.{needs}
 use Rattle.octets.proofs.write32.Statement.{statement}
 use Rattle.octets.proofs.write32.Tie as tie
-use Rattle.octets.proofs.write32.Reads as reads
-use Rattle.octets.proofs.write32.Lts as lts
-use Rattle.octets.proofs.store.Reads as store-reads
 
 returns : tie.Need-returns
 returns c =

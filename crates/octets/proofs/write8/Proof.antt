@@ -4,9 +4,6 @@ use native.Mathlib.Omega.{arith}
 use borrow.Author.Needs.{needs}
 use Rattle.octets.proofs.write8.Statement.{statement}
 use Rattle.octets.proofs.write8.Tie as tie
-use Rattle.octets.proofs.write8.Reads as reads
-use Rattle.octets.proofs.write8.Lts as lts
-use Rattle.octets.proofs.store.Reads as store-reads
 
 returns : tie.Need-returns
 returns c = put-next _ _ _ _ (sym (put-none _ _)) (c .before .before .store .ensures) (omega arith) (omega arith)

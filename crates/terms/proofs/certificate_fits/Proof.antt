@@ -1,6 +1,6 @@
 use mathlib.Core.Bool.{_&&_, _||_, not, and-true}
 use mathlib.Core.Logic.{_≢_}
-use mathlib.Core.Path.{_≡_, ap, _∙_}
+use mathlib.Core.Path.{_≡_, ap}
 use borrow.Author.Tests.{eq-eqb, ne-eqb}
 use lib.Dec.{eqb}
 use Rattle.records.specs.declared.Certificate.{Certificate}

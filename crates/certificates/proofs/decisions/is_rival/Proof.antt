@@ -1,67 +1,37 @@
-use mathlib.Core.Path.{_≡_, ap, _∙_}
-use Rattle.records.specs.Phone.{decode}
+use mathlib.Core.Bool.{Bool, true, false, _&&_}
+use mathlib.Core.Path.{_≡_, sym, ap, ap₂, _∙_}
+use borrow.Author.Tests.{eq-eqb, ne-eqb, not-true, not-false}
 use Rattle.rules.specs.Chains.{valid-root}
-use Rattle.certificates.proofs.Rivals.{not-valid, no-rival, maker-rival, other-domain, phone-rival, card-rival}
 use borrow.Author.Needs.{needs}
 use Rattle.certificates.proofs.decisions.is_rival.Statement.{statement}
 use Rattle.certificates.proofs.decisions.is_rival.Tie as tie
 
-abbrev start : tie.After-valid-root → tie.Start
-start c = c .before .before .before
+-- v: x is a valid root; d: of the same domain; a: another one; m: within reach
+invalid : (v d a m : Bool) → v ≡ false → false ≡ (v && d && a && m)
+invalid v d a m h = ap (λ b. b && d && a && m) (sym h)
 
-valid : (c : tie.After-valid-root) → let a = start c .args in c .valid-root .result ≡ valid-root (decode (a .s .now) .trust .seen .clock) (a .x)
-valid c = c .valid-root .ensures ∙ ap (λ t. valid-root t (start c .args .x)) (c .before .clock .ensures)
+of-another : (v d a m : Bool) → v ≡ true → d ≡ false → false ≡ (v && d && a && m)
+of-another v d a m h k = ap₂ (λ b c. b && c && a && m) (sym h) (sym k)
 
--- where it was found to be a valid root
-abbrev tested : tie.Else1 → tie.After-valid-root
-tested c = c .before
-
--- past both tests
-abbrev asked : tie.Else2 → tie.Else1
-asked c = c .before .before .before .before .before
+of-one : (v d a m : Bool) → v ≡ true → d ≡ true → (a && m) ≡ (v && d && a && m)
+of-one v d a m h k = ap₂ (λ b c. b && c && a && m) (sym h) (sym k)
 
 returns : tie.Need-returns
-returns c = not-valid _ _ _ _ (valid (c .before)) (c .if1 .taken)
+returns c = invalid _ _ _ _ (sym (c .before .valid-root .ensures) ∙ not-true _ (c .if1 .taken))
+
+-- x is a valid root
+valid : (c : tie.Else1) → let a = c .before .before .args in valid-root (a .clock) (a .x) ≡ true
+valid c = sym (c .before .valid-root .ensures) ∙ not-false _ (c .if1 .left)
 
 returns-2 : tie.Need-returns-2
-returns-2 c = no-rival _ _ _ _ (valid (tested (c .before .before .before .before .before))) (c .if2 .taken)
+returns-2 c = of-another _ _ _ _ (valid (c .before .before .before)) (ne-eqb _ _ (c .if2 .taken))
+
+-- past both tests
+abbrev tested : tie.After-struct-known7 → tie.Else2
+tested c = c .before .before .before .before .before
 
 returns-3 : tie.Need-returns-3
-returns-3 c =
-    let p = c .before .before in
-    maker-rival _ _ _ _ (valid (tested (asked p))) (asked p .if1 .left) (p .if2 .left) (c .if3 .taken)
-
-returns-4 : tie.Need-returns-4
-returns-4 c =
-    let n = c .before .before in
-    let p = n .before .before in
-    other-domain _ _ _ _ (valid (tested (asked p))) (asked p .if1 .left) (p .if2 .left) (n .if3 .left) (c .if4 .taken)
-
-returns-5 : tie.Need-returns-5
-returns-5 c =
-    let o = c .before .before .before in
-    let n = o .before .before in
-    let p = n .before .before in
-    phone-rival _ _ _ _ (valid (tested (asked p))) (asked p .if1 .left) (p .if2 .left) (n .if3 .left) (o .if4 .left) (c .before .if5 .taken)
-    (c .is-present .ensures)
-
-returns-6 : tie.Need-returns-6
-returns-6 c =
-    let h = c .before .before in
-    let o = h .before .before in
-    let n = o .before .before in
-    let p = n .before .before in
-    card-rival _ _ _ _ (valid (tested (asked p))) (asked p .if1 .left) (p .if2 .left) (n .if3 .left) (o .if4 .left) (h .if5 .left)
+returns-3 c = of-one _ _ _ _ (valid (tested c .before .before .before)) (eq-eqb _ _ (tested c .if2 .left))
 
 pub is-rival-spec : {M : Type 1} → statement M
-is-rival-spec =
-    tie.close
-    (tie.spec
-    (λ c κs. search needs) (λ c κs. search needs)
-    returns
-    returns-2
-    returns-3
-    returns-4
-    (λ c κs. search needs)
-    returns-5
-    returns-6)
+is-rival-spec = tie.close (tie.spec (λ c. search needs) returns returns-2 returns-3)

@@ -12,6 +12,7 @@ use Rattle.handling.proofs.CodeRows.{Gives, none, here, next, rest, gives, says
 use Rattle.handling.proofs.PlanLaws.{stands, decides}
 use Rattle.certificates.specs.MarkingRows.{validity-rows, replacing-rows}
 use borrow.Author.Needs.{needs}
+use Rattle.certificates.proofs.Rivals.{read-fits, read-there}
 use Rattle.certificates.proofs.decisions.judge_replacing.Statement.{statement}
 use Rattle.certificates.proofs.decisions.judge_replacing.Tie as tie
 
@@ -50,39 +51,60 @@ elsewhere c h =
 past-1 : (c : tie.Else1) {r : ℕ} → r ≡ first (validity (read c) ++ last (read c)) → r ≡ first (rows (read c))
 past-1 c q = gives (next (elsewhere (c .before) (c .if1 .left)) (rest q))
 
+-- where it was asked what stands against the root being valid
+abbrev free : tie.After-judge-validity → tie.Else1
+free c = c .before .before .before
+
+-- what the rows say of the record that was read they say of the one in the slot
+judged : (c : tie.After-judge-validity) → c .judge-validity .result ≡ first (validity (read (free c)))
+judged c =
+    let k = read (free c) in
+    c .judge-validity .ensures ∙ ap (λ x. first (validity-rows (decode (start k .args .s .now)) x)) (k .certificate .ensures)
+
 -- and where marking is not refused
-past-2 : (c : tie.Else2) {r : ℕ} → r ≡ first (last (read (c .before .before))) → r ≡ first (rows (read (c .before .before)))
+past-2 : (c : tie.Else2) {r : ℕ} → let k = read (free (c .before)) in r ≡ first (last k) → r ≡ first (rows k)
 past-2 c q =
-    let k = c .before .before in
-    past-1 k (q ∙ decides (validity (read k)) (last (read k)) tt (c .before .judge-validity .ensures) (c .if2 .left))
+    let k = free (c .before) in
+    past-1 k (q ∙ decides (validity (read k)) (last (read k)) tt (judged (c .before)) (c .if2 .left))
+
+judge-validity-requires : tie.Need-judge-validity-requires
+judge-validity-requires c κs =
+    let k = read (c .before .before) in
+    let a = start k .pre in
+    let is = k .certificate .ensures in
+    (a .0, ((c .before .clock .ensures, c .of-other-operator .ensures), (read-fits (a .0) (a .1) is, read-there (a .1) is)))
 
 returns : tie.Need-returns
 returns c = gives (here (elsewhere (c .before) (c .if1 .taken)))
 
 returns-2 : tie.Need-returns-2
 returns-2 c =
-    let k = c .before .before in
-    past-1 k (stands (validity (read k)) (last (read k)) (c .before .judge-validity .ensures) (c .if2 .taken))
+    let k = free (c .before) in
+    past-1 k (stands (validity (read k)) (last (read k)) (judged (c .before)) (c .if2 .taken))
 
 -- whether the root may be replaced
-may : (c : tie.After-may-replace) → let k = read (c .before .before .before) in
+may : (c : tie.After-may-replace) → let k = read (free (c .before .before)) in
     c .may-replace .result ≡ may-replace (start k .args .e) (root k) (start k .args .r)
 may c =
-    let k = read (c .before .before .before) in
+    let k = read (free (c .before .before)) in
     c .may-replace .ensures ∙ ap (λ x. may-replace (start k .args .e) x (start k .args .r)) (k .certificate .ensures)
 
 returns-3 : tie.Need-returns-3
 returns-3 c = past-2 (c .before .before) (gives (here (says (may (c .before)) (c .if3 .taken))))
 
 -- and where the root may be replaced
-past-3 : (c : tie.Else3) {r : ℕ} → let k = read (c .before .before .before .before) in Gives r (drop 1 (last k)) → r ≡ first (rows k)
+past-3 : (c : tie.Else3) {r : ℕ} → let k = read (free (c .before .before .before)) in Gives r (drop 1 (last k)) → r ≡ first (rows k)
 past-3 c g = past-2 (c .before .before) (gives (next (says (may (c .before)) (c .if3 .left)) g))
 
+clock : (c : tie.Else3) → let v = c .before .before .before in
+    v .before .before .clock .result ≡ decode (start (read (free v)) .args .s .now) .trust .seen .clock
+clock c = c .before .before .before .before .before .clock .ensures
+
 returns-4 : tie.Need-returns-4
-returns-4 c = past-3 (c .before .before .before) (here (says-below (c .before .before .clock .ensures) (c .if4 .taken)))
+returns-4 c = past-3 (c .before .before) (here (says-below (clock (c .before .before)) (c .if4 .taken)))
 
 returns-5 : tie.Need-returns-5
-returns-5 c = past-3 (c .before .before .before) (next (says-not-below (c .before .before .clock .ensures) (c .if4 .left)) none)
+returns-5 c = past-3 (c .before .before) (next (says-not-below (clock (c .before .before)) (c .if4 .left)) none)
 
 pub judge-replacing-spec : {M : Type 1} → statement M
 judge-replacing-spec =
@@ -90,10 +112,10 @@ judge-replacing-spec =
     (tie.spec
     (λ c κs. search needs) (λ c κs. search needs)
     returns
-    (λ c κs. search needs)
+    (λ c κs. search needs) (λ c κs. search needs)
+    judge-validity-requires
     returns-2
     (λ c κs. search needs)
     returns-3
-    (λ c κs. search needs)
     returns-4
     returns-5)

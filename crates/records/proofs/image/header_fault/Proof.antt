@@ -4,13 +4,6 @@ use native.Mathlib.Omega.{arith}
 use borrow.Author.Needs.{needs}
 use Rattle.records.proofs.image.header_fault.Statement.{statement}
 use Rattle.records.proofs.image.header_fault.Tie as tie
-use Rattle.records.proofs.image.header_fault.Reads as reads
-use Rattle.records.proofs.image.header_fault.Lts as lts
-use Rattle.records.proofs.Header.card_count.Reads as card-count-reads
-use Rattle.records.proofs.Header.certificate_slots.Reads as certificate-slots-reads
-use Rattle.records.proofs.Header.executable_slots.Reads as executable-slots-reads
-use Rattle.records.proofs.Header.version.Reads as version-reads
-use Rattle.records.proofs.image.settings_fault.Reads as settings-fault-reads
 
 returns : tie.Need-returns
 returns c = too-short _ (omega arith)

@@ -3,15 +3,6 @@ use native.Mathlib.Omega.{arith}
 use borrow.Author.Needs.{needs}
 use Rattle.records.proofs.image.parts_fault.Statement.{statement}
 use Rattle.records.proofs.image.parts_fault.Tie as tie
-use Rattle.records.proofs.image.parts_fault.Reads as reads
-use Rattle.records.proofs.image.parts_fault.Lts as lts
-use Rattle.records.proofs.Header.card_count.Reads as card-count-reads
-use Rattle.records.proofs.Header.cards_at.Reads as cards-at-reads
-use Rattle.records.proofs.Header.certificate_slots.Reads as certificate-slots-reads
-use Rattle.records.proofs.Header.certificates_at.Reads as certificates-at-reads
-use Rattle.records.proofs.Header.executable_slots.Reads as executable-slots-reads
-use Rattle.records.proofs.Header.executables_at.Reads as executables-at-reads
-use Rattle.records.proofs.Header.table_at.Reads as table-at-reads
 
 returns : tie.Need-returns
 returns c = wrong-certificates-at _ (omega arith)

@@ -4,12 +4,6 @@ use native.Mathlib.Omega.{arith}
 use borrow.Author.Needs.{needs}
 use Rattle.records.proofs.image.settings_fault.Statement.{statement}
 use Rattle.records.proofs.image.settings_fault.Tie as tie
-use Rattle.records.proofs.image.settings_fault.Reads as reads
-use Rattle.records.proofs.image.settings_fault.Lts as lts
-use Rattle.records.proofs.Header.action_count.Reads as action-count-reads
-use Rattle.records.proofs.Header.blank.Reads as blank-reads
-use Rattle.records.proofs.Header.mode.Reads as mode-reads
-use Rattle.records.proofs.image.parts_fault.Reads as parts-fault-reads
 
 returns : tie.Need-returns
 returns c = no-action _ (omega arith)

@@ -1,5 +1,5 @@
 use mathlib.Core.Bool.{not, _&&_, _||_}
-use mathlib.Core.Path.{_≡_, ap}
+use mathlib.Core.Path.{ap}
 use lib.Dec.{eqb}
 use Rattle.rules.specs.Words.{between}
 use Rattle.rules.specs.Actors.{acts-for}

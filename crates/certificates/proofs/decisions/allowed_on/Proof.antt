@@ -5,18 +5,17 @@ use native.Mathlib.Omega.{arith}
 use lib.ListN.{drop}
 use Rattle.records.specs.Phone.{decode}
 use Rattle.rules.specs.Words.{first}
-use Rattle.rules.specs.Chains.{present}
 use Rattle.rules.specs.Actors.{may-act, acts-for}
 use Rattle.rules.specs.Forms.{with-kind}
 use Rattle.rules.specs.Codes.{has-id, certificate-named}
 use Rattle.lookup.proofs.FoundSlot.{at-first, at-within}
-use Rattle.handling.specs.Plans.{certificate-rows}
-use Rattle.handling.proofs.CodeRows.{Gives, none, here, next, gives, says}
+use Rattle.handling.specs.Plans.{allowed-rows}
+use Rattle.handling.proofs.CodeRows.{Gives, none, here, next, gives}
 use Rattle.handling.proofs.PlanLaws.{plan-refused, plan-on}
 use Rattle.handling.proofs.Named.{certificate-here, certificate-missing, certificate-found}
 use borrow.Author.Needs.{needs}
-use Rattle.certificates.proofs.decisions.on_certificate.Statement.{statement}
-use Rattle.certificates.proofs.decisions.on_certificate.Tie as tie
+use Rattle.certificates.proofs.decisions.allowed_on.Statement.{statement}
+use Rattle.certificates.proofs.decisions.allowed_on.Tie as tie
 
 -- where the certificate was looked for, and where all began
 abbrev looked : tie.After-certificate → tie.After-certificate-slot
@@ -29,7 +28,7 @@ start c = looked c .before .before
 abbrev Past : ℕ → tie.After-certificate → ℕ → Type 0
 Past n c r =
     let a = start c .args in
-    let l = certificate-rows (a .kind) (a .nobody) (decode (a .s .now)) (a .e) in
+    let l = allowed-rows (a .kind) (a .nobody) (decode (a .s .now)) (a .e) in
     Gives r (drop n l) → r ≡ first l
 
 past-1 : (c : tie.After-certificate) {r : ℕ} → Past 1 c r
@@ -64,12 +63,6 @@ barred c h = ap₂ (λ b d. not (b && d) || start (c .before .before) .args .nob
 past-2 : (c : tie.Else1) {r : ℕ} → Past 2 (c .before .before .before) r
 past-2 c g = past-1 (c .before .before .before) (next (barred (c .before) (c .if1 .left)) g)
 
-is-there : (c : tie.After-is-present) → let a = start (c .before .before .before .before) .args in
-    c .is-present .result ≡ present (decode (a .s .now) .trust .seen) (certificate-named (decode (a .s .now)) (a .e .id))
-is-there c =
-    let p = decode (start (c .before .before .before .before) .args .s .now) in
-    c .is-present .ensures ∙ ap (present (p .trust .seen)) (named (c .before .before .before .before))
-
 certificate-requires : tie.Need-certificate-requires
 certificate-requires c κs =
     let k = c .before in
@@ -84,21 +77,17 @@ returns : tie.Need-returns
 returns c = plan-refused _ _ (omega arith) (past-1 (c .before .before .before) (here (barred (c .before) (c .if1 .taken))))
 
 returns-2 : tie.Need-returns-2
-returns-2 c = plan-refused _ _ (omega arith) (past-2 (c .before .before) (here (says (is-there (c .before)) (c .if2 .taken))))
-
-returns-3 : tie.Need-returns-3
-returns-3 c =
+returns-2 c =
     let missing = certificate-missing _ _ (c .before .before .certificate-slot .ensures) (c .enum-told .given .1) in
     plan-refused _ _ (omega arith) (gives (here (ap not missing)))
 
-returns-4 : tie.Need-returns-4
-returns-4 c =
-    let k = c .before .before .before .before .before in
-    plan-on _ _ (at-first (has-id _) _ (looked k .certificate-slot .ensures) (k .before .before .slot .given .1))
-    (past-2 (c .before .before) (next (says (is-there (c .before)) (c .if2 .left)) none))
+returns-3 : tie.Need-returns-3
+returns-3 c =
+    let k = c .before .before .before in
+    plan-on _ _ (at-first (has-id _) _ (looked k .certificate-slot .ensures) (k .before .before .slot .given .1)) (past-2 c none)
 
-pub on-certificate-spec : {M : Type 1} → statement M
-on-certificate-spec =
+pub allowed-on-spec : {M : Type 1} → statement M
+allowed-on-spec =
     tie.close
     (tie.spec
     (λ c κs. search needs) (λ c. search needs) (λ c. search needs)
@@ -106,7 +95,5 @@ on-certificate-spec =
     may-act-requires
     (λ c κs. search needs)
     returns
-    (λ c κs. search needs)
     returns-2
-    returns-3
-    returns-4)
+    returns-3)
