@@ -1,4 +1,5 @@
-//! A lesson in lines: a line for each event, and the reasons under an answer that is a surprise.
+//! A lesson in lines: a line for each event, the author's comment above it, and the reasons under an
+//! answer that is a surprise.
 
 use crate::told::{Moment, Told};
 
@@ -8,6 +9,9 @@ const WIDEST: usize = 56;
 /// How far words that go on below stand in, and how wide they get: no answer stands beside them.
 const GOES_ON: &str = "    ";
 const WIDEST_BELOW: usize = 84;
+
+/// How wide the lines of a comment get.
+const WIDEST_COMMENT: usize = 100;
 
 /// The lines of a lesson, ready to be printed.
 pub fn lines(told: &Told) -> String {
@@ -72,7 +76,8 @@ impl Columns {
         let indent = " ".repeat(head.len());
         let mut words = broken(&moment.words, *event, WIDEST_BELOW).into_iter();
         let first = words.next().unwrap_or_default();
-        let mut text = format!("{head}{first:event$}  {}\n", moment.answer);
+        let mut text = comment(moment);
+        text.push_str(&format!("{head}{first:event$}  {}\n", moment.answer));
         for more in words {
             text.push_str(&format!("{indent}{GOES_ON}{more}\n"));
         }
@@ -81,6 +86,21 @@ impl Columns {
         }
         text
     }
+}
+
+/// The comment above an event, with the `#` that it has in the text, so that no word of it is taken for an answer.
+fn comment(moment: &Moment) -> String {
+    let mut text = String::new();
+    // It begins something new; over the first event there is an empty line already.
+    if !moment.comment.is_empty() && moment.number > 1 {
+        text.push('\n');
+    }
+    for line in &moment.comment {
+        for piece in broken_at(" ", line, WIDEST_COMMENT, WIDEST_COMMENT) {
+            text.push_str(&format!("# {piece}\n"));
+        }
+    }
+    text
 }
 
 fn width(words: &str) -> usize {
@@ -94,6 +114,10 @@ fn broken(words: &str, first: usize, others: usize) -> Vec<String> {
         true => ", ",
         false => " ",
     };
+    broken_at(end_of_piece, words, first, others)
+}
+
+fn broken_at(end_of_piece: &str, words: &str, first: usize, others: usize) -> Vec<String> {
     let mut lines: Vec<String> = Vec::new();
     for piece in words.split_inclusive(end_of_piece) {
         let room = match lines.len() {

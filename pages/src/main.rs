@@ -7,7 +7,7 @@ use std::io::{Read, Write};
 use std::process::ExitCode;
 
 use pages::programs::{command_words, Programs};
-use pages::reading::text_of;
+use pages::reading::{text_of, STANDARD_INPUT};
 use pages::told::{refused, stream, tell, Told};
 use pages::trouble::Trouble;
 
@@ -142,7 +142,7 @@ fn read(file: &str) -> Result<(String, String), Trouble> {
         "-" => {
             let mut bytes = Vec::new();
             let read = std::io::stdin().read_to_end(&mut bytes);
-            ("standard input", read.map(|_| bytes))
+            (STANDARD_INPUT, read.map(|_| bytes))
         }
         file => (file, std::fs::read(file)),
     };

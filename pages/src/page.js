@@ -1,4 +1,5 @@
-// Adds the arrow keys, and opens the page with its first section alone. Without it the page is complete.
+// Adds the arrow keys, opens the page with its first section alone, and says where a picture goes on to the right.
+// Without it the page is complete.
 (function () {
   "use strict";
   var sections = Array.prototype.slice.call(document.querySelectorAll("main > section"));
@@ -35,10 +36,20 @@
     list.scrollLeft = place.offsetLeft - list.clientWidth / 2;
   }
 
+  function isWide(box) {
+    return box.scrollWidth > box.clientWidth;
+  }
+
+  // The hint of a picture stands before it. All are measured before one is shown, which would move the others.
+  function hint(entries) {
+    var wide = entries.map(function (entry) { return isWide(entry.target); });
+    entries.forEach(function (entry, nth) { entry.target.previousElementSibling.hidden = !wide[nth]; });
+  }
+
   // A picture that is wider than the screen keeps its arrow keys.
   function scrolls(target) {
     var box = target.closest && target.closest(".scroll");
-    return box && box.scrollWidth > box.clientWidth;
+    return box && isWide(box);
   }
 
   function step(key) {
@@ -58,4 +69,8 @@
   document.querySelector("main").classList.add("first");
   shown = chosen();
   links.forEach(mark);
+
+  // A picture gets its size when its section is chosen or the window changes.
+  var watcher = new ResizeObserver(hint);
+  document.querySelectorAll("figure.scroll").forEach(function (picture) { watcher.observe(picture); });
 })();

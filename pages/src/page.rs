@@ -5,6 +5,7 @@
 
 mod actions;
 pub mod changes;
+pub mod faults;
 pub mod html;
 pub mod names;
 
@@ -15,6 +16,7 @@ use reference::phone::Phone;
 use crate::picture::{picture, sign, Plan, Said, Scene};
 use crate::told::{Asked, Moment, Told};
 use changes::Changes;
+use faults::faults;
 use html::escape;
 
 /// From so many on, what `why` says stands in columns.
@@ -41,7 +43,7 @@ pub fn page(told: &Told) -> String {
 
 const FOOTER: &str = "<footer>
 <h2>What stands behind this page</h2>
-<p>The answers and the reasons were given by the proved programs. The images were held to the proved library, byte for byte. What turned text into bytes, and numbers into words and pictures, is not proved.</p>
+<p>The answers and the reasons were given by the proved programs. The images were held to the proved library, byte for byte. What turned text into bytes, and numbers into words and pictures, is not proved. Nor is what this page reads off a certificate by itself, in slanted letters in its box. The comments are the author's.</p>
 </footer>
 ";
 
@@ -121,11 +123,17 @@ fn legend() -> String {
 
 const LEGEND_REST: &str = "<li><svg class=\"key\" viewBox=\"0 0 34 14\" aria-hidden=\"true\"><path class=\"cut\" d=\"M9 7H34\"/><circle class=\"no\" cx=\"8\" cy=\"7\" r=\"7\"/><path class=\"no\" d=\"M5 4l6 6m0 -6l-6 6\"/></svg> the certificate has the key and does not serve; under it stands why</li>
 <li><svg class=\"key\" viewBox=\"0 0 34 14\" aria-hidden=\"true\"><path class=\"link wait op\" d=\"M0 7H28\"/><circle class=\"ring op\" cx=\"28\" cy=\"7\" r=\"5\"/></svg> a chain, but the application is not verified since</li>
-<li><svg class=\"key\" viewBox=\"0 0 34 14\" aria-hidden=\"true\"><path class=\"names\" d=\"M0 7H34\"/></svg> names a key that the other has; it says nothing of trust</li>
+<li><svg class=\"key\" viewBox=\"0 0 34 14\" aria-hidden=\"true\"><path class=\"names\" d=\"M0 7H34\"/></svg> the key of one verifies the other; by itself that is no trust</li>
 <li><svg class=\"key\" viewBox=\"0 0 34 14\" aria-hidden=\"true\"><rect class=\"card absent\" x=\"1\" y=\"1\" width=\"32\" height=\"12\"/></svg> a card that is not in the phone</li>
 <li><span class=\"tag\">changed</span> by this event; <span class=\"tag\">now</span> something else was told before</li>
+<li><b class=\"fault\">past its date</b>, or other slanted words in a box: this page reads them off the certificate, of which <i>why</i> says nothing</li>
 </ul>
-<p>A certificate has a key; an issued one has <i>key 1001 by 1000</i>: its own key, and the key that verifies it.</p>
+<dl>
+<div><dt>key 1001 by 1000</dt> <dd>the key of an issued certificate, and the key that verifies it</dd></div>
+<div><dt>links</dt> <dd>the certificates of a chain, with the root and the one that has the application's key: four at most</dd></div>
+<div><dt>domain</dt> <dd>whose root the chain begins with: the operator's, the manufacturer's or a third party's. The table of actions has a column for each, and one for applications without a domain</dd></div>
+<div><dt>standing message</dt> <dd>the administrator's last message about third party roots. One that is installed later is enabled only where this is to enable all</dd></div>
+</dl>
 </details>
 ";
 
@@ -264,6 +272,7 @@ impl Section<'_> {
         self.write_steps(out);
         out.push_str("</div>\n");
         if let Some(moment) = self.stage.moment {
+            write_comment(out, moment);
             write_answer(out, moment);
         }
     }
@@ -291,10 +300,10 @@ impl Section<'_> {
             0 => "The phone before any event".to_string(),
             number => format!("The phone after event {number}"),
         };
-        let words = in_words(scene.phone, self.stage.why);
+        let words = in_words(scene.phone, self.stage.why, scene.said);
         let _ = write!(
             out,
-            "<figure class=\"scroll\" tabindex=\"0\" aria-label=\"{title}\">\n{}{}</figure>\n",
+            "<div class=\"moment\">\n{SIDEWAYS}<figure class=\"scroll\" tabindex=\"0\" aria-label=\"{title}\">\n{}{}</figure>\n",
             picture(scene, plan, name, &title, &words),
             match plan.is_crowded() {
                 true => CROWDED,
@@ -309,9 +318,13 @@ impl Section<'_> {
         let _ = writeln!(out, "<div class=\"under{many}\">");
         write_why(out, scene.phone, self.stage.why);
         out.push_str(&actions::table(scene.phone, scene.changes));
-        out.push_str("</div>\n");
+        out.push_str("</div>\n</div>\n");
     }
 }
+
+/// Shown by the script where the picture does not fit.
+const SIDEWAYS: &str =
+    "<p class=\"sideways\" hidden>The picture goes on to the right: move it sideways.</p>\n";
 
 const CROWDED: &str = "<figcaption>This phone has many certificates: only chains have lines, and a certificate that does not serve says why without one.</figcaption>\n";
 
@@ -325,6 +338,19 @@ fn kicker(moment: &Moment, last: usize) -> String {
         "Event {} of {last}, {source}, at second {}",
         moment.number, moment.second
     )
+}
+
+/// What the author says above the event in the text.
+fn write_comment(out: &mut String, moment: &Moment) {
+    if moment.comment.is_empty() {
+        return;
+    }
+    let words = moment.comment.join(" ");
+    let _ = writeln!(
+        out,
+        "<p class=\"comment\"><span class=\"unseen\">Comment: </span>{}</p>",
+        escape(&words)
+    );
 }
 
 fn write_answer(out: &mut String, moment: &Moment) {
@@ -392,7 +418,7 @@ fn domain_of(phone: &Phone, id: u16) -> u8 {
 }
 
 /// The picture for those who do not see it.
-fn in_words(phone: &Phone, why: &[Asked]) -> String {
+fn in_words(phone: &Phone, why: &[Asked], said: &Said) -> String {
     let of_one = |asked: &Asked| {
         format!(
             "Application {}, {}: {}.",
@@ -401,8 +427,25 @@ fn in_words(phone: &Phone, why: &[Asked]) -> String {
             asked.lines.join("; ")
         )
     };
-    let all: Vec<String> = why.iter().map(of_one).collect();
+    let mut all: Vec<String> = why.iter().map(of_one).collect();
+    all.extend(faults_in_words(phone, said));
     all.join(" ")
+}
+
+/// What the picture shows of certificates beside the words of `why`.
+fn faults_in_words(phone: &Phone, said: &Said) -> Option<String> {
+    let untold = phone
+        .occupied_certificates()
+        .filter(|certificate| said.words_of(certificate.id).is_none());
+    let words: Vec<String> = untold
+        .map(|certificate| (certificate.id, faults(phone, certificate)))
+        .filter(|(_, faults)| !faults.is_empty())
+        .map(|(id, faults)| format!("certificate {id}, {}", faults.join(", ")))
+        .collect();
+    match words.is_empty() {
+        true => None,
+        false => Some(format!("Read off by this page: {}.", words.join("; "))),
+    }
 }
 
 fn write_why(out: &mut String, phone: &Phone, why: &[Asked]) {

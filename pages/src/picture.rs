@@ -1,7 +1,7 @@
 //! A picture of the phone at one moment, in SVG.
 //!
-//! It shows and decides nothing: records, domains and marks are read off the image, chains and
-//! reasons are the lines of `why`.
+//! It shows and decides nothing: records, domains and marks are read off the image, and so are the
+//! faults of a certificate; chains and reasons are the lines of `why`.
 
 mod layout;
 mod lines;
@@ -225,7 +225,11 @@ fn draw_texts(out: &mut String, record: &Record, height: i32) {
     );
     for line in &record.body {
         y += BODY_STEP;
-        text(out, "field", INSET, y, line);
+        let class = match record.faults.contains(&line.as_str()) {
+            true => "fault",
+            false => "field",
+        };
+        text(out, class, INSET, y, line);
     }
     if !record.foot.is_empty() {
         draw_foot(out, record, height);

@@ -2,6 +2,9 @@
 
 use crate::trouble::Trouble;
 
+/// What the file is called that `-` stands for.
+pub const STANDARD_INPUT: &str = "standard input";
+
 /// The mark that some editors put before UTF-8.
 const BYTE_ORDER_MARK: &[u8] = b"\xef\xbb\xbf";
 

@@ -9,6 +9,7 @@ use reference::timeline::{self, Record, Refused, Way};
 use crate::asking::{Asking, Question};
 use crate::held;
 use crate::programs::{Programs, Ran, Said, Verdict};
+use crate::reading::STANDARD_INPUT;
 use crate::trust::Trust;
 use crate::words::{self, Answer};
 
@@ -44,6 +45,8 @@ pub struct Moment {
     pub number: usize,
     /// The line of the text; none for a clock event that was put in.
     pub line: Option<usize>,
+    /// The comment that stands above it in the text, line by line and without `#`.
+    pub comment: Vec<String>,
     /// The phone's clock when the event came.
     pub second: u32,
     pub event: Vec<u8>,
@@ -132,11 +135,7 @@ impl<'a> Source<'a> {
 
     /// What the first comment says, or the file's name.
     fn title(&self) -> String {
-        let comment = self
-            .text
-            .lines()
-            .find_map(|line| line.trim().strip_prefix('#'));
-        match comment.map(|comment| comment.trim_start_matches('#').trim()) {
+        match self.text.lines().find_map(comment_in) {
             Some(title) if !title.is_empty() => title.to_string(),
             _ => self.file.to_string(),
         }
@@ -154,22 +153,49 @@ impl<'a> Source<'a> {
         }
     }
 
+    /// The line that stands for a byte.
+    fn line_at(&self, offset: usize) -> Option<&str> {
+        let line = self.placed.line_of(offset)?;
+        self.text.lines().nth(line - 1).map(str::trim)
+    }
+
     /// The words of the line that stands for a byte, to be shown under an error.
     fn quoted(&self, offset: usize) -> String {
-        let line = self.placed.line_of(offset);
-        match line.and_then(|line| self.text.lines().nth(line - 1)) {
-            Some(line) => format!("\n    {}", line.trim()),
+        match self.line_at(offset) {
+            Some(line) => format!("\n    {line}"),
             None => String::new(),
         }
     }
 
     /// What is told of an image that breaks a rule.
     fn image_refused(&self, rule: u8, offset: usize) -> Trouble {
+        let advice = match rule {
+            8 => self.advice_on_chains(offset),
+            _ => None,
+        };
         Trouble::refused(format!(
-            "{}: the image is refused (1), and no event is run: it breaks rule I{rule} at byte {offset}. The rule is that {}.{}\n{READ_ON}",
+            "{}: the image is refused (1), and no event is run: it breaks rule I{rule} at byte {offset}. The rule is that {}.{}{}\n{READ_ON}",
             self.place(offset),
             words::rule(rule),
-            self.quoted(offset)
+            self.quoted(offset),
+            advice.unwrap_or_default()
+        ))
+    }
+
+    /// An application without its chain can be asked about once it is no longer said to have one.
+    fn advice_on_chains(&self, offset: usize) -> Option<String> {
+        let words: Vec<&str> = self.line_at(offset)?.split_whitespace().collect();
+        let ["executable", id, domain, ..] = words[..] else {
+            return None;
+        };
+        let id: u16 = id.parse().ok()?;
+        let file = match self.file {
+            // There is no file to name.
+            STANDARD_INPUT => "FILE",
+            file => file,
+        };
+        Some(format!(
+            "\nTo see what its chain lacks, write `untrusted` in place of `{domain}` in this line, and ask `./run why {file} {id}`"
         ))
     }
 
@@ -210,6 +236,59 @@ impl<'a> Source<'a> {
         }
         lines
     }
+
+    /// The comment of each event: what stands directly above it. A comment above a line `at` belongs to
+    /// the first event in that second, which is the clock event where one is put in.
+    fn comments_of(&self, lines: &[Option<usize>]) -> Vec<Vec<String>> {
+        let text: Vec<&str> = self.text.lines().collect();
+        let mut comments = vec![Vec::new(); lines.len()];
+        for (nth, line) in lines.iter().enumerate() {
+            let before = nth.checked_sub(1);
+            // A line of bytes may be several events, and the comment is that of the first.
+            let goes_on = before.is_some_and(|before| lines[before] == *line);
+            let Some(line) = line.filter(|_| !goes_on) else {
+                continue;
+            };
+            let above = CommentsAbove::of(&text[..line - 1]);
+            let clock = before.filter(|before| lines[*before].is_none());
+            comments[clock.unwrap_or(nth)].extend(above.of_second);
+            comments[nth].extend(above.of_event);
+        }
+        comments
+    }
+}
+
+/// The comments directly above an event.
+#[derive(Default)]
+struct CommentsAbove {
+    /// Those above its line `at`.
+    of_second: Vec<String>,
+    of_event: Vec<String>,
+}
+
+impl CommentsAbove {
+    /// Those at the end of all lines before the event's own.
+    fn of(lines: &[&str]) -> CommentsAbove {
+        let mut above = CommentsAbove::default();
+        let mut comments = &mut above.of_event;
+        for line in lines.iter().rev() {
+            match comment_in(line) {
+                Some("") => {}
+                Some(comment) => comments.insert(0, comment.to_string()),
+                None if line.split_whitespace().next() == Some("at") => {
+                    comments = &mut above.of_second;
+                }
+                None => break,
+            }
+        }
+        above
+    }
+}
+
+/// What a line says that is a comment and nothing else.
+fn comment_in(line: &str) -> Option<&str> {
+    let comment = line.trim().strip_prefix('#')?;
+    Some(comment.trim_start_matches('#').trim())
 }
 
 /// Where an author reads on about a refused image.
@@ -220,6 +299,9 @@ const READ_ON: &str =
 fn cannot_be_read(file: &str, wrong: &Wrong) -> Trouble {
     let mut message = format!("{file}, {wrong}");
     if wrong.message.contains(FIRST_WORDS) {
+        if wrong.message.ends_with("application`") {
+            message += "; an application is `executable` in a lesson's text";
+        }
         let names: Vec<&str> = event_names().collect();
         message += &format!(
             "; the events are {} (lessons/tables.md has an example of each line)",
@@ -332,18 +414,19 @@ impl Run {
         };
         let trust = Trust::found(&phone, &events, &self.answers, asking)?;
         let reasons = reasons(&events, &self.answers, &trust, asking)?;
-        let mut lines = source.lines_of(&events).into_iter();
+        let lines = source.lines_of(&events);
+        let mut comments = source.comments_of(&lines).into_iter();
         let mut second = phone.clock;
         let mut moments = Vec::new();
         for (before, (record, reasons)) in events.iter().zip(reasons).enumerate() {
             let answer = self.answers[before];
-            let line = lines.next().flatten();
             let event = Event::decode(record);
             let is_put_in = source.placed.is_timeline && is_clock(record);
             let holder = event.map(|event| trust.domain_before(event.id, before + 1));
             moments.push(Moment {
                 number: before + 1,
-                line,
+                line: lines[before],
+                comment: comments.next().unwrap_or_default(),
                 second,
                 event: record.to_vec(),
                 words: match event {

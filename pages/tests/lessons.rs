@@ -123,6 +123,41 @@ fn a_refused_image_names_its_line() {
     assert_eq!(said.next(), None);
 }
 
+/// An application without the chain that it should have: how to find out what is missing.
+#[test]
+fn an_application_without_its_chain_can_be_asked_about() {
+    let text = read_text("lessons/worked-run.txt").replace("clock 100", "clock 201");
+    let advice = |file: &str, text: &str| {
+        let trouble = tell(file, text, &stand_ins(), false).expect_err("a refused image");
+        assert!(trouble.message.contains("it breaks rule I8 at byte 152."));
+        let mut said = trouble.message.lines().skip(1);
+        let quoted = said.next().expect("the line").trim().to_string();
+        (quoted, said.next().expect("a line").to_string())
+    };
+    let (quoted, advised) = advice("x.txt", &text);
+    assert_eq!(quoted, "executable 1 operator signed 1001 permissions none");
+    assert_eq!(
+        advised,
+        "To see what its chain lacks, write `untrusted` in place of `operator` in this line, and ask `./run why x.txt 1`"
+    );
+    assert!(advice("standard input", &text)
+        .1
+        .ends_with("ask `./run why FILE 1`"));
+    // What is advised helps.
+    let untrusted = text.replace("executable 1 operator", "executable 1 untrusted");
+    let stream = stream("x.txt", &untrusted).expect("a stream");
+    let said = stand_ins().why(&stream, 1, 0).expect("an answer");
+    assert_eq!(said.lines, ["certificate 11 is past its date"]);
+    // A record in bytes has no word to write.
+    let in_bytes = text.replace(
+        "executable 1 operator signed 1001 permissions none",
+        "executable bytes 00 01 01 00 00 00 03 e9 00 00 00 00",
+    );
+    assert!(advice("x.txt", &in_bytes)
+        .1
+        .starts_with("lessons/tables.md"));
+}
+
 /// `./run why` tells a refused image in the words of a lesson, by the rule and the byte of the program.
 #[test]
 fn a_refused_image_is_told_the_same_without_a_run() {
@@ -199,6 +234,26 @@ fn a_first_word_that_there_is_not_names_the_events() {
         .contains("found `verfy`; the events are clock, card-in, "));
     assert!(trouble.message.contains(" verify, "));
     assert!(trouble.message.contains("lessons/tables.md"));
+    assert!(!trouble.message.contains("an application is"));
+}
+
+#[test]
+fn an_application_is_an_executable_in_the_text() {
+    let text = read_text("lessons/worked-run.txt");
+    for (from, to) in [
+        ("executable 1 operator", "application 1 operator"),
+        (
+            "card-out by device",
+            "install-application by user application 5 unsigned",
+        ),
+    ] {
+        let trouble = tell("x.txt", &text.replace(from, to), &stand_ins(), false);
+        let message = trouble.expect_err("no such word").message;
+        assert!(
+            message.contains("application`; an application is `executable` in a lesson's text; "),
+            "{message}"
+        );
+    }
 }
 
 #[test]
@@ -259,6 +314,75 @@ fn a_title_is_the_first_comment_or_the_name() {
         "x.txt"
     );
     assert_eq!(title(text.split_once('\n').expect("lines").1), "x.txt");
+}
+
+#[test]
+fn a_comment_is_told_with_the_event_under_it() {
+    let text = read_text("lessons/worked-run.txt")
+        .replace(
+            "\nclock by device to 200",
+            "\n  ## Time\n#\n# goes by.\nclock by device to 200",
+        )
+        .replace("\ncard-in", "\n# Not above an event.\n\ncard-in")
+        .replace(
+            "\nclock by device to 201",
+            "\nclock by device to 201 # beside one",
+        );
+    let told = tell("x.txt", &text, &stand_ins(), false).expect("a lesson");
+    assert_eq!(told.moments[1].comment, ["Time", "goes by."]);
+    let others = told.moments.iter().filter(|moment| moment.number != 2);
+    assert!(others.map(|moment| &moment.comment).all(Vec::is_empty));
+    let lines = lines(&told);
+    assert!(lines.contains("(0)\n\n# Time\n# goes by.\n   2  second 100  clock by device"));
+    assert!(!lines.contains("Not above an event.") && !lines.contains("beside one"));
+}
+
+#[test]
+fn a_comment_above_two_events_in_one_line_is_told_once() {
+    let request = "0f 00 00 01 00 00 00 00 00 00 00 00 00 00 00 00 00 00 00 00 00 00 00 00";
+    let text = read_text("lessons/worked-run.txt");
+    let text = format!("{text}# Twice.\nbytes {request} {request}\n");
+    let told = tell("x.txt", &text, &stand_ins(), false).expect("a lesson");
+    assert_eq!(told.moments.len(), 16);
+    assert_eq!(told.moments[14].line, told.moments[15].line);
+    assert_eq!(told.moments[14].comment, ["Twice."]);
+    assert!(told.moments[15].comment.is_empty());
+}
+
+/// A long comment is broken, and no line of it can be taken for an answer.
+#[test]
+fn every_line_of_a_comment_begins_as_one() {
+    let comment = "1  second 100  done (0) ".repeat(9);
+    let text = read_text("lessons/worked-run.txt")
+        .replace("\ncard-out", &format!("\n# {comment}\ncard-out"));
+    let told = tell("x.txt", &text, &stand_ins(), false).expect("a lesson");
+    let lines = lines(&told);
+    let of_comment: Vec<&str> = lines
+        .lines()
+        .filter(|line| line.starts_with("# "))
+        .collect();
+    assert_eq!(of_comment.len(), 3);
+    assert!(of_comment.iter().all(|line| line.len() <= 102));
+    let said = of_comment
+        .iter()
+        .flat_map(|line| line[2..].split_whitespace());
+    assert!(said.eq(comment.split_whitespace()));
+}
+
+/// A comment above a second is that of the clock event which is put in, and of the first event where none is.
+#[test]
+fn a_comment_above_a_second_is_told_with_its_first_event() {
+    let told = told("timed-lesson", false).expect("a lesson");
+    let comment = |number: usize| told.moments[number - 1].comment.join(" ");
+    assert!(comment(1).starts_with("The watch starts at the second"));
+    assert_eq!(comment(13), "The last second of the card's root.");
+    assert!(told.moments[12].line.is_none());
+    assert_eq!(comment(14), "");
+    let text =
+        read_text("lessons/timed-lesson.txt").replace("at 1012\n", "at 1012\n# Asked again.\n");
+    let told = tell("x.txt", &text, &stand_ins(), false).expect("a lesson");
+    assert!(told.moments[1].comment[0].starts_with("Twelve seconds of talk."));
+    assert_eq!(told.moments[2].comment, ["Asked again."]);
 }
 
 #[test]

@@ -10,9 +10,9 @@ use std::sync::OnceLock;
 use pages::page::page;
 use pages::told::{tell, Asked, Moment, Moment0, Told};
 use reference::generate::images::{accepted_phone, Shape};
-use reference::phone::Phone;
+use reference::phone::{Certificate, Phone, RECOVERY};
 use reference::random::Random;
-use reference::why::explain;
+use reference::why::{explain, Reason};
 
 fn told(name: &str) -> Told {
     let file = format!("lessons/{name}.txt");
@@ -74,6 +74,15 @@ fn whys_of(told: &Told) -> Vec<&[Asked]> {
         .collect()
 }
 
+/// The images of the sections.
+fn phones_of(told: &Told) -> Vec<Phone> {
+    let after = told.moments.iter().map(|moment| &moment.image);
+    let images = std::iter::once(&told.before.image).chain(after);
+    images
+        .map(|image| Phone::decode(image).expect("an image"))
+        .collect()
+}
+
 fn group<'a>(groups: &'a [Group], title: &str) -> &'a Group {
     let found = groups.iter().find(|group| group.title == title);
     found.unwrap_or_else(|| panic!("no box of {title}"))
@@ -93,6 +102,8 @@ fn every_event_has_a_section_with_its_picture() {
             assert_eq!(section.matches("<h2 ").count(), 1);
             assert_eq!(section.matches("<title ").count(), 1);
             assert_eq!(section.matches("<table ").count(), 1);
+            // The script shows the hint that stands before a picture.
+            assert!(section.contains("to the right: move it sideways.</p>\n<figure "));
             assert!(!section.contains("no picture"));
         }
     }
@@ -143,6 +154,14 @@ fn what_was_told_stands_there_word_for_word() {
             for reason in &moment.reasons {
                 assert!(texts.contains(reason), "{reason}");
             }
+            let comment = moment.comment.join(" ");
+            assert!(comment.is_empty() || texts.contains(&comment), "{comment}");
+            assert_eq!(
+                section.contains("class=\"comment\""),
+                !comment.is_empty(),
+                "{}",
+                moment.words
+            );
         }
     }
 }
@@ -169,15 +188,69 @@ fn what_is_told_of_a_certificate_stands_at_it() {
     }
 }
 
+/// The faults of a certificate, by the reasons of the reference.
+fn faults_by_the_reference(phone: &Phone, certificate: &Certificate) -> Vec<String> {
+    let all = [
+        (Reason::MarkedInvalid, "marked invalid"),
+        (Reason::Disabled, "disabled"),
+        (Reason::AbsentCard, "card absent"),
+        (Reason::PastItsDate, "past its date"),
+    ];
+    let is_so =
+        |reason: Reason| certificate.kind != RECOVERY && reason.is_true_of(phone, certificate);
+    let found = all.into_iter().filter(|(reason, _)| is_so(*reason));
+    found.map(|(_, words)| words.to_string()).collect()
+}
+
+/// Where `why` says nothing of a certificate, the page reads its fields; where it does, that stands alone.
+#[test]
+fn what_a_certificate_has_against_it_is_read_off_where_nothing_is_told() {
+    let mut seen = std::collections::BTreeSet::new();
+    for told in all_told().into_iter().chain(largest_phones()) {
+        let page = page(&told);
+        for (section, phone) in sections(&page).iter().zip(phones_of(&told)) {
+            let groups = groups(section);
+            for certificate in phone.occupied_certificates() {
+                let group = group(&groups, &format!("certificate {}", certificate.id));
+                let expected = match group.said.is_empty() {
+                    true => faults_by_the_reference(&phone, certificate),
+                    false => Vec::new(),
+                };
+                assert_eq!(group.faults, expected, "{}: {}", told.file, group.title);
+                assert!(expected.is_empty() || group.has_class("plain"));
+                seen.extend(expected);
+            }
+        }
+    }
+    assert_eq!(seen.len(), 4, "{seen:?}");
+}
+
+/// The root behind "no good signer": in its last second, and one second later.
+#[test]
+fn a_root_past_its_date_says_so_itself() {
+    let page = page(&told("timed-lesson"));
+    let sections = sections(&page);
+    assert!(group(&groups(sections[14]), "certificate 20").has_class("good"));
+    let groups = groups(sections[16]);
+    let signed = group(&groups, "certificate 21");
+    assert_eq!(signed.said, "has no good signer within three links");
+    assert!(signed.faults.is_empty());
+    let root = group(&groups, "certificate 20");
+    assert_eq!(root.faults, ["past its date"]);
+    assert_eq!(root.said, "");
+    // Nowhere does it stand among the answers, and whoever does not see the picture is told whose words they are.
+    assert!(!sections[16].contains("certificate 20 is past its date"));
+    assert!(sections[16].contains(
+        "Read off by this page: certificate 20, past its date; certificate 30, marked invalid."
+    ));
+}
+
 #[test]
 fn every_record_stands_there_once_and_in_its_domain() {
     let classes = ["un", "op", "mf", "tp"];
     for told in all_told() {
         let page = page(&told);
-        let after = told.moments.iter().map(|moment| &moment.image);
-        let images = std::iter::once(&told.before.image).chain(after);
-        for (section, image) in sections(&page).iter().zip(images) {
-            let phone = Phone::decode(image).expect("an image");
+        for (section, phone) in sections(&page).iter().zip(phones_of(&told)) {
             let groups = groups(section);
             let certificates = phone.occupied_certificates();
             let certificates = certificates.map(|c| (format!("certificate {}", c.id), c.domain));
@@ -282,6 +355,7 @@ fn text_is_never_taken_for_markup() {
     told.title = evil.to_string();
     told.file = evil.to_string();
     told.moments[0].words = evil.to_string();
+    told.moments[0].comment = vec![evil.to_string(), evil.to_string()];
     told.moments[0].answer = evil.to_string();
     told.moments[0].reasons = vec![evil.to_string()];
     told.moments[0].why[0].lines = vec![evil.to_string(), format!("certificate 10 {evil}")];
@@ -316,6 +390,7 @@ fn an_empty_phone_and_a_clock_event_that_was_put_in_are_shown() {
     told.moments.push(Moment {
         number: 1,
         line: None,
+        comment: Vec::new(),
         second: phone.clock,
         event: Vec::new(),
         words: "clock".to_string(),
@@ -340,4 +415,5 @@ fn the_page_says_what_stands_behind_it() {
     assert!(footer.contains("The answers and the reasons were given by the proved programs."));
     assert!(footer.contains("held to the proved library, byte for byte"));
     assert!(footer.contains("is not proved"));
+    assert!(footer.contains("Nor is what this page reads off a certificate by itself"));
 }

@@ -58,7 +58,7 @@ impl Plan {
 
 fn certificate_record(scene: &Scene, certificate: &Certificate) -> Record {
     let tag = scene.changes.certificates.get(&certificate.id).copied();
-    Record::of_certificate(certificate, scene.said, scene.said_before, tag)
+    Record::of_certificate(certificate, scene.phone, scene.said, scene.said_before, tag)
 }
 
 /// A box with its upper left corner.

@@ -1,10 +1,11 @@
 //! What stands in the box of one record, and how tall that makes it.
 
-use reference::phone::{Certificate, Executable, ISSUED, ROOT, THIRD_PARTY, UNTRUSTED};
+use reference::phone::{Certificate, Executable, Phone, ISSUED, ROOT, THIRD_PARTY, UNTRUSTED};
 
 use super::measure::{width, wrap};
 use super::said::{Said, Story};
 use crate::page::changes::Tag;
+use crate::page::faults::faults;
 use crate::page::names;
 
 /// The width of every box.
@@ -60,6 +61,8 @@ pub struct Record {
     pub kind: &'static str,
     /// The lines under that one.
     pub body: Vec<String>,
+    /// Those of them that say something against a certificate of which `why` says nothing.
+    pub faults: Vec<&'static str>,
     /// What `why` says of it.
     pub foot: Vec<String>,
     pub look: Look,
@@ -86,17 +89,23 @@ impl Record {
 
     pub fn of_certificate(
         certificate: &Certificate,
+        phone: &Phone,
         said: &Said,
         before: Option<&Said>,
         tag: Option<Tag>,
     ) -> Record {
         let told = said.certificates.get(&certificate.id);
         let words_before = before.and_then(|said| said.words_of(certificate.id));
+        let faults = match told {
+            None => faults(phone, certificate),
+            Some(_) => Vec::new(),
+        };
         Record {
             title: vec![format!("certificate {}", certificate.id)],
             domain: certificate.domain,
             kind: kind_beside_domain(certificate),
-            body: body_of(certificate),
+            body: body_of(certificate, &faults),
+            faults,
             foot: told.map_or(Vec::new(), |told| foot(&told.words)),
             look: match told {
                 None => Look::Plain,
@@ -124,6 +133,7 @@ impl Record {
             domain: first.domain,
             kind: "",
             body,
+            faults: Vec::new(),
             foot: own.flat_map(|words| foot(&words)).collect(),
             look: look_of(first, story),
             tag,
@@ -153,7 +163,8 @@ fn kind_beside_domain(certificate: &Certificate) -> &'static str {
     }
 }
 
-fn body_of(certificate: &Certificate) -> Vec<String> {
+/// The fields, and the faults that are not among them as words.
+fn body_of(certificate: &Certificate, faults: &[&str]) -> Vec<String> {
     let mut lines = Vec::new();
     if kind_beside_domain(certificate).is_empty() {
         lines.push(names::kind(certificate.kind).to_string());
@@ -173,6 +184,11 @@ fn body_of(certificate: &Certificate) -> Vec<String> {
     });
     lines.push(format!("owner {}", certificate.owner));
     lines.push(format!("until {}", certificate.expiry));
+    for fault in faults {
+        if !lines.iter().any(|line| line == fault) {
+            lines.push(fault.to_string());
+        }
+    }
     lines
 }
 

@@ -39,6 +39,8 @@ pub struct Group {
     pub title: String,
     /// What `why` says of it.
     pub said: String,
+    /// What the page reads off it.
+    pub faults: Vec<String>,
     pub classes: Vec<String>,
     pub x: i32,
 }
@@ -55,12 +57,12 @@ fn attribute<'a>(tag: &'a str, name: &str) -> &'a str {
     value.split('"').next().unwrap_or("")
 }
 
-fn text_of_class(group: &str, class: &str) -> String {
+fn texts_of_class(group: &str, class: &str) -> Vec<String> {
     let start = format!("<text class=\"{class}\"");
     let parts = group.split(start.as_str()).skip(1);
     let texts = parts.filter_map(|part| part.split_once('>'));
     let texts = texts.map(|(_, text)| unescaped(text.split('<').next().unwrap_or("")));
-    texts.collect::<Vec<_>>().join(" ")
+    texts.collect()
 }
 
 fn parts_of_groups(section: &str) -> impl Iterator<Item = &str> {
@@ -80,8 +82,9 @@ fn corner(group: &str) -> (i32, i32) {
 pub fn groups(section: &str) -> Vec<Group> {
     parts_of_groups(section)
         .map(|group| Group {
-            title: text_of_class(group, "title"),
-            said: text_of_class(group, "said"),
+            title: texts_of_class(group, "title").join(" "),
+            said: texts_of_class(group, "said").join(" "),
+            faults: texts_of_class(group, "fault"),
             classes: attribute(group, "class")
                 .split(' ')
                 .map(str::to_string)
