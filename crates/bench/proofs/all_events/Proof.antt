@@ -41,15 +41,7 @@ pub all-events-spec : {M : Type 1} → statement M
 all-events-spec =
     tie.close
     (tie.spec
-    Inv-loop
-    μ-loop
-    (λ c κs. search needs) (λ c. search needs) (λ c. omega arith) (λ c. search needs)
-    slice-aggregate-step-accepted
-    (λ c κs. search needs)
-    (λ c. search needs)
-    add-line-requires
-    (λ c κs. search needs) (λ c. omega arith)
-    loop-again
-    (λ c. search needs)
-    slice-aggregate-write-all
+    Inv-loop μ-loop (λ c κs. search needs) (λ c. search needs) (λ c. omega arith) (λ c. search needs)
+    slice-aggregate-step-accepted (λ c κs. search needs) (λ c. search needs) add-line-requires
+    (λ c κs. search needs) (λ c. omega arith) loop-again (λ c. search needs) slice-aggregate-write-all
     (λ c κs. search needs) (λ c. search needs) (λ c. search needs) (λ c. search needs) (λ c. search needs))

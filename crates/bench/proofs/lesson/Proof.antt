@@ -34,10 +34,7 @@ pub lesson-spec : {M : Type 1} → statement M
 lesson-spec =
     tie.close
     (tie.spec
-    (λ c κs. search needs) (λ c κs. search needs) (λ c κs. search needs) (λ c. search needs)
-    (λ c κs. search needs)
-    array-share-prefix-out
-    slice-aggregate-write-all
+    (λ c κs. search needs) (λ c κs. search needs) (λ c κs. search needs) (λ c. search needs) (λ c κs. search needs)
+    array-share-prefix-out slice-aggregate-write-all
     (λ c κs. search needs) (λ c. search needs) (λ c. search needs) (λ c. search needs) (λ c. search needs)
-    all-events-requires
-    (λ c. search needs) (λ c. search needs))
+    all-events-requires (λ c. search needs) (λ c. search needs))

@@ -26,10 +26,6 @@ pub main-spec : {M : Type 1} → statement M
 main-spec =
     tie.close
     (tie.spec
-    (λ c. search needs)
-    put-heading-requires
-    array-share-prefix-first
-    slice-aggregate-write-all
-    (λ c κs. search needs) (λ c. search needs) (λ c κs. search needs) (λ c. search needs)
-    slice-aggregate-lesson
+    (λ c. search needs) put-heading-requires array-share-prefix-first slice-aggregate-write-all
+    (λ c κs. search needs) (λ c. search needs) (λ c κs. search needs) (λ c. search needs) slice-aggregate-lesson
     (λ c κs. search needs) (λ c. search needs))

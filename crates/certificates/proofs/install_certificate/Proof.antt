@@ -35,8 +35,5 @@ install-certificate-spec =
     tie.close
     (tie.spec
     (λ c κs. search needs) (λ c. search needs) (λ c κs. search needs) (λ c. search needs)
-    (λ c κs. search needs) (λ c κs. search needs)
-    install-certificate-requires-2
-    (λ c κs. search needs) (λ c. search needs) (λ c. search (plan-handled, needs))
-    (λ c. search needs)
-    returns-2)
+    (λ c κs. search needs) (λ c κs. search needs) install-certificate-requires-2
+    (λ c κs. search needs) (λ c. search needs) (λ c. search (plan-handled, needs)) (λ c. search needs) returns-2)

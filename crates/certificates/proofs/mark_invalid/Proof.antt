@@ -50,10 +50,6 @@ pub mark-invalid-spec : {M : Type 1} → statement M
 mark-invalid-spec =
     tie.close
     (tie.spec
-    (λ c κs. search needs) (λ c. search needs) (λ c κs. search needs) (λ c. search needs)
-    certificate-requires
-    mark-invalid-requires-2
-    settle-own-requires
-    (λ c. search needs) (λ c. search (plan-handled, needs))
-    (λ c. search needs)
-    returns-2)
+    (λ c κs. search needs) (λ c. search needs) (λ c κs. search needs) (λ c. search needs) certificate-requires
+    mark-invalid-requires-2 settle-own-requires (λ c. search needs) (λ c. search (plan-handled, needs))
+    (λ c. search needs) returns-2)

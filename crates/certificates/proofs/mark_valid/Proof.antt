@@ -54,11 +54,6 @@ pub mark-valid-spec : {M : Type 1} → statement M
 mark-valid-spec =
     tie.close
     (tie.spec
-    (λ c κs. search needs) (λ c. search needs) (λ c κs. search needs) (λ c. search needs)
-    certificate-requires
-    (λ c κs. search needs)
-    mark-valid-requires-2
-    settle-if-requires
-    (λ c. search needs) (λ c. search (plan-handled, needs))
-    (λ c. search needs)
-    returns-2)
+    (λ c κs. search needs) (λ c. search needs) (λ c κs. search needs) (λ c. search needs) certificate-requires
+    (λ c κs. search needs) mark-valid-requires-2 settle-if-requires
+    (λ c. search needs) (λ c. search (plan-handled, needs)) (λ c. search needs) returns-2)

@@ -37,7 +37,4 @@ message-spec =
     tie.close
     (tie.spec
     (λ c κs. search needs) (λ c κs. search needs) (λ c. search needs) (λ c. search (handled-refused, needs))
-    (λ c κs. search (c .before .before .message .ensures .1, needs))
-    settle-if-requires
-    (λ c. search needs)
-    returns-2)
+    (λ c κs. search (c .before .before .message .ensures .1, needs)) settle-if-requires (λ c. search needs) returns-2)

@@ -50,10 +50,6 @@ pub replace-spec : {M : Type 1} → statement M
 replace-spec =
     tie.close
     (tie.spec
-    (λ c κs. search needs) (λ c. search needs) (λ c κs. search needs) (λ c. search needs)
-    certificate-requires
-    replace-requires-2
-    settle-own-requires
-    (λ c. search needs) (λ c. search (plan-handled, needs))
-    (λ c. search needs)
+    (λ c κs. search needs) (λ c. search needs) (λ c κs. search needs) (λ c. search needs) certificate-requires
+    replace-requires-2 settle-own-requires (λ c. search needs) (λ c. search (plan-handled, needs)) (λ c. search needs)
     returns-2)

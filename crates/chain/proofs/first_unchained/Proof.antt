@@ -52,13 +52,5 @@ pub first-unchained-spec : {M : Type 1} → statement M
 first-unchained-spec =
     tie.close
     (tie.spec
-    Inv-loop
-    μ-loop
-    (λ c κs. search needs) (λ c κs. search needs)
-    loop-holds
-    (λ c κs. search needs)
-    chained-fits-requires
-    returns
-    (λ c. search needs) (λ c. search needs)
-    loop-again
-    returns-2)
+    Inv-loop μ-loop (λ c κs. search needs) (λ c κs. search needs) loop-holds (λ c κs. search needs)
+    chained-fits-requires returns (λ c. search needs) (λ c. search needs) loop-again returns-2)

@@ -54,12 +54,6 @@ pub runs-out-spec : {M : Type 1} → statement M
 runs-out-spec =
     tie.close
     (tie.spec
-    Inv-loop
-    μ-loop
-    (λ c κs. search needs) (λ c κs. search needs)
-    loop-holds
-    (λ c κs. search needs) (λ c κs. search needs)
-    returns
-    (λ c. search needs) (λ c. search needs)
-    loop-again
+    Inv-loop μ-loop (λ c κs. search needs) (λ c κs. search needs) loop-holds
+    (λ c κs. search needs) (λ c κs. search needs) returns (λ c. search needs) (λ c. search needs) loop-again
     returns-2)

@@ -30,8 +30,4 @@ pub settle-spec : {M : Type 1} → statement M
 settle-spec =
     tie.close
     (tie.spec
-    (λ c κs. search needs)
-    settle-domain-requires-2
-    settle-domain-requires-3
-    (λ c. search needs)
-    returns)
+    (λ c κs. search needs) settle-domain-requires-2 settle-domain-requires-3 (λ c. search needs) returns)

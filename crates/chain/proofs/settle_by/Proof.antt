@@ -55,14 +55,5 @@ pub settle-by-spec : {M : Type 1} → statement M
 settle-by-spec =
     tie.close
     (tie.spec
-    Inv-loop
-    μ-loop
-    (λ c κs. search needs) (λ c κs. search needs)
-    loop-holds
-    set-domain-requires
-    (λ c. search needs)
-    next-unchained-requires-2
-    loop-less
-    loop-again
-    (λ c. search needs)
-    returns)
+    Inv-loop μ-loop (λ c κs. search needs) (λ c κs. search needs) loop-holds set-domain-requires (λ c. search needs)
+    next-unchained-requires-2 loop-less loop-again (λ c. search needs) returns)

@@ -19,7 +19,5 @@ pub answers-differ-spec : {M : Type 1} → statement M
 answers-differ-spec =
     tie.close
     (tie.spec
-    (λ c κs. search needs) (λ c. search needs) (λ c κs. search needs) (λ c. search needs)
-    slice-aggregate-text-differs
-    text-differs-requires
-    returns)
+    (λ c κs. search needs) (λ c. search needs) (λ c κs. search needs) (λ c. search needs) slice-aggregate-text-differs
+    text-differs-requires returns)

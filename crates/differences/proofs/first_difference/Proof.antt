@@ -30,12 +30,5 @@ pub first-difference-spec : {M : Type 1} → statement M
 first-difference-spec =
     tie.close
     (tie.spec
-    Inv-loop
-    μ-loop
-    loop-holds
-    returns
-    (λ c. search needs) (λ c. search needs)
-    returns-2
-    (λ c. search needs) (λ c. search needs)
-    loop-again
-    returns-3)
+    Inv-loop μ-loop loop-holds returns (λ c. search needs) (λ c. search needs) returns-2
+    (λ c. search needs) (λ c. search needs) loop-again returns-3)

@@ -47,12 +47,7 @@ pub put-told-spec : {M : Type 1} → statement M
 put-told-spec =
     tie.close
     (tie.spec
-    (λ c κs. search needs) (λ c κs. search needs) (λ c. search needs)
-    returns
-    returns-2
-    (λ c κs. search needs) (λ c. search needs)
-    returns-3
-    (λ c. search needs) (λ c. search needs) (λ c. search needs) (λ c κs. search needs)
-    add-result
-    (λ c. search needs)
+    (λ c κs. search needs) (λ c κs. search needs) (λ c. search needs) returns returns-2
+    (λ c κs. search needs) (λ c. search needs) returns-3
+    (λ c. search needs) (λ c. search needs) (λ c. search needs) (λ c κs. search needs) add-result (λ c. search needs)
     returns-4)

@@ -81,14 +81,6 @@ pub write-answers-spec : {M : Type 1} → statement M
 write-answers-spec =
     tie.close
     (tie.spec
-    Inv-loop
-    μ-loop
-    put-heading-requires
-    put-opened-requires
-    loop-holds
-    (λ c. omega arith) (λ c. search needs)
-    returns
+    Inv-loop μ-loop put-heading-requires put-opened-requires loop-holds (λ c. omega arith) (λ c. search needs) returns
     (λ c. omega arith) (λ c κs. omega arith) (λ c. search needs) (λ c. search needs) (λ c κs. omega arith) (λ c. omega arith) (λ c. omega arith)
-    loop-again
-    (λ c. search needs)
-    returns-2)
+    loop-again (λ c. search needs) returns-2)

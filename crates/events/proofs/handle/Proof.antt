@@ -160,70 +160,16 @@ pub handle-spec : {M : Type 1} → statement M
 handle-spec =
     tie.close
     (tie.spec
-    (λ c κs. search needs) (λ c κs. search needs)
-    returns
-    (λ c κs. search needs) (λ c κs. search needs)
-    clock-requires
-    (λ c κs. search needs)
-    card-in-requires
-    (λ c κs. search needs)
-    card-out-requires
-    (λ c κs. search needs)
-    power-up-requires
-    (λ c κs. search needs)
-    install-certificate-requires
-    (λ c κs. search needs)
-    delete-certificate-requires
-    (λ c κs. search needs)
-    mark-valid-requires
-    (λ c κs. search needs)
-    mark-invalid-requires
-    (λ c κs. search needs)
-    message-requires
-    (λ c κs. search needs)
-    install-executable-requires
-    (λ c κs. search needs)
-    delete-executable-requires
-    (λ c κs. search needs)
-    verify-requires
-    (λ c κs. search needs)
-    give-requires
-    (λ c κs. search needs)
-    withdraw-requires
-    (λ c κs. search needs)
-    request-requires
-    (λ c κs. search needs)
-    replace-requires
-    (λ c κs. search needs) (λ c. search needs)
-    returns-2
-    (λ c. search needs)
-    returns-3
-    (λ c. search needs)
-    returns-4
-    (λ c. search needs)
-    returns-5
-    (λ c. search needs)
-    returns-6
-    (λ c. search needs)
-    returns-7
-    (λ c. search needs)
-    returns-8
-    (λ c. search needs)
-    returns-9
-    (λ c. search needs)
-    returns-10
-    (λ c. search needs)
-    returns-11
-    (λ c. search needs)
-    returns-12
-    (λ c. search needs)
-    returns-13
-    (λ c. search needs)
-    returns-14
-    (λ c. search needs)
-    returns-15
-    (λ c. search needs)
-    returns-16
-    (λ c. search needs)
-    returns-17
-    returns-18)
+    (λ c κs. search needs) (λ c κs. search needs) returns (λ c κs. search needs) (λ c κs. search needs) clock-requires
+    (λ c κs. search needs) card-in-requires (λ c κs. search needs) card-out-requires (λ c κs. search needs)
+    power-up-requires (λ c κs. search needs) install-certificate-requires (λ c κs. search needs)
+    delete-certificate-requires (λ c κs. search needs) mark-valid-requires (λ c κs. search needs)
+    mark-invalid-requires (λ c κs. search needs) message-requires (λ c κs. search needs) install-executable-requires
+    (λ c κs. search needs) delete-executable-requires (λ c κs. search needs) verify-requires (λ c κs. search needs)
+    give-requires (λ c κs. search needs) withdraw-requires (λ c κs. search needs) request-requires
+    (λ c κs. search needs) replace-requires (λ c κs. search needs) (λ c. search needs) returns-2 (λ c. search needs)
+    returns-3 (λ c. search needs) returns-4 (λ c. search needs) returns-5 (λ c. search needs) returns-6
+    (λ c. search needs) returns-7 (λ c. search needs) returns-8 (λ c. search needs) returns-9 (λ c. search needs)
+    returns-10 (λ c. search needs) returns-11 (λ c. search needs) returns-12 (λ c. search needs) returns-13
+    (λ c. search needs) returns-14 (λ c. search needs) returns-15 (λ c. search needs) returns-16 (λ c. search needs)
+    returns-17 returns-18)

@@ -28,5 +28,4 @@ install-executable-spec =
     (tie.spec
     (λ c κs. search needs) (λ c. search needs) (λ c κs. search needs) (λ c. search needs)
     install-executable-requires-2
-    (λ c κs. search needs) (λ c. search needs) (λ c. search plan-handled) (λ c. search needs)
-    returns-2)
+    (λ c κs. search needs) (λ c. search needs) (λ c. search plan-handled) (λ c. search needs) returns-2)

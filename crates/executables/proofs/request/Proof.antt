@@ -22,7 +22,5 @@ pub request-spec : {M : Type 1} → statement M
 request-spec =
     tie.close
     (tie.spec
-    (λ c κs. search needs) (λ c. search needs) (λ c κs. search needs) (λ c. search needs)
-    executable-requires
-    (λ c κs. search needs) (λ c κs. search needs) (λ c. search plan-handled)
-    returns-2)
+    (λ c κs. search needs) (λ c. search needs) (λ c κs. search needs) (λ c. search needs) executable-requires
+    (λ c κs. search needs) (λ c κs. search needs) (λ c. search plan-handled) returns-2)

@@ -26,7 +26,5 @@ pub verify-spec : {M : Type 1} → statement M
 verify-spec =
     tie.close
     (tie.spec
-    (λ c κs. search needs) (λ c. search needs) (λ c κs. search needs) (λ c. search needs)
-    verify-requires-2
-    (λ c κs. search needs) (λ c. search needs) (λ c. search plan-handled) (λ c. search needs)
-    returns-2)
+    (λ c κs. search needs) (λ c. search needs) (λ c κs. search needs) (λ c. search needs) verify-requires-2
+    (λ c κs. search needs) (λ c. search needs) (λ c. search plan-handled) (λ c. search needs) returns-2)

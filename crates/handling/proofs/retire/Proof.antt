@@ -44,13 +44,6 @@ pub retire-spec : {M : Type 1} → statement M
 retire-spec =
     tie.close
     (tie.spec
-    Inv-loop
-    μ-loop
-    (λ c κs. search needs)
-    loop-holds
-    (λ c κs. search needs) (λ c κs. search needs) (λ c. search needs) (λ c. search needs)
-    loop-again
-    (λ c κs. search needs) (λ c. search needs) (λ c. search needs)
-    loop-again-2
-    (λ c. search needs)
-    returns)
+    Inv-loop μ-loop (λ c κs. search needs) loop-holds
+    (λ c κs. search needs) (λ c κs. search needs) (λ c. search needs) (λ c. search needs) loop-again
+    (λ c κs. search needs) (λ c. search needs) (λ c. search needs) loop-again-2 (λ c. search needs) returns)

@@ -136,18 +136,6 @@ pub certificate-room-spec : {M : Type 1} → statement M
 certificate-room-spec =
     tie.close
     (tie.spec
-    Inv-loop
-    μ-loop
-    (λ c κs. search needs)
-    loop-holds
-    (λ c. search needs) (λ c κs. search needs)
-    returns
-    (λ c κs. search needs) (λ c κs. search needs)
-    returns-2
-    returns-3
-    (λ c. search needs)
-    loop-again
-    (λ c. search needs)
-    loop-again-2
-    returns-4
-    returns-5)
+    Inv-loop μ-loop (λ c κs. search needs) loop-holds (λ c. search needs) (λ c κs. search needs) returns
+    (λ c κs. search needs) (λ c κs. search needs) returns-2 returns-3 (λ c. search needs) loop-again
+    (λ c. search needs) loop-again-2 returns-4 returns-5)

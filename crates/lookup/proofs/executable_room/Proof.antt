@@ -90,15 +90,5 @@ pub executable-room-spec : {M : Type 1} → statement M
 executable-room-spec =
     tie.close
     (tie.spec
-    Inv-loop
-    μ-loop
-    (λ c κs. search needs)
-    loop-holds
-    (λ c. search needs) (λ c κs. search needs)
-    returns
-    (λ c κs. search needs) (λ c. search needs)
-    loop-again
-    (λ c. search needs)
-    loop-again-2
-    returns-2
-    returns-3)
+    Inv-loop μ-loop (λ c κs. search needs) loop-holds (λ c. search needs) (λ c κs. search needs) returns
+    (λ c κs. search needs) (λ c. search needs) loop-again (λ c. search needs) loop-again-2 returns-2 returns-3)

@@ -103,26 +103,8 @@ pub executable-slot-spec : {M : Type 1} → statement M
 executable-slot-spec =
     tie.close
     (tie.spec
-    Inv-loop
-    μ-loop
-    (λ c κs. search needs)
-    loop-holds
-    (λ c. search needs)
-    executable-has-id-requires
-    returns
-    (λ c. search needs)
-    executable-has-id-requires-2
-    (λ c. search needs)
-    returns-2
-    (λ c. search needs)
-    executable-has-id-requires-3
-    (λ c. search needs)
-    returns-3
-    (λ c. search needs)
-    executable-has-id-requires-4
-    (λ c. search needs)
-    returns-4
-    (λ c. search needs) (λ c. omega arith)
-    loop-again
-    executable-from-requires
+    Inv-loop μ-loop (λ c κs. search needs) loop-holds (λ c. search needs) executable-has-id-requires returns
+    (λ c. search needs) executable-has-id-requires-2 (λ c. search needs) returns-2 (λ c. search needs)
+    executable-has-id-requires-3 (λ c. search needs) returns-3 (λ c. search needs) executable-has-id-requires-4
+    (λ c. search needs) returns-4 (λ c. search needs) (λ c. omega arith) loop-again executable-from-requires
     returns-5)

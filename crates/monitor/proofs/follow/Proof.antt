@@ -45,13 +45,5 @@ pub follow-spec : {M : Type 1} → statement M
 follow-spec =
     tie.close
     (tie.spec
-    Inv-loop
-    μ-loop
-    loop-holds
-    one-requires
-    tell-requires
-    (λ c. search needs) (λ c. search needs)
-    loop-again
-    same-length
-    same-length-2
-    returns)
+    Inv-loop μ-loop loop-holds one-requires tell-requires (λ c. search needs) (λ c. search needs) loop-again
+    same-length same-length-2 returns)

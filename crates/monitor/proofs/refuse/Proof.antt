@@ -32,11 +32,4 @@ pub refuse-spec : {M : Type 1} → statement M
 refuse-spec =
     tie.close
     (tie.spec
-    Inv-loop
-    μ-loop
-    loop-holds
-    tell-requires
-    (λ c. search needs) (λ c. search needs)
-    loop-again
-    same-length
-    returns)
+    Inv-loop μ-loop loop-holds tell-requires (λ c. search needs) (λ c. search needs) loop-again same-length returns)

@@ -29,15 +29,6 @@ pub tell-spec : {M : Type 1} → statement M
 tell-spec =
     tie.close
     (tie.spec
-    (λ c. search needs) (λ c. search needs) (λ c. search needs)
-    slice-write-answers-2
-    (λ c. search needs)
-    slice-write-answers-3
-    (λ c. search needs)
-    slice-write-answers-4
-    (λ c. search needs) (λ c. search needs)
-    slice-write-answers-5
-    (λ c. search needs) (λ c. search needs)
-    slice-write-answers-6
-    (λ c. search needs)
-    returns)
+    (λ c. search needs) (λ c. search needs) (λ c. search needs) slice-write-answers-2 (λ c. search needs)
+    slice-write-answers-3 (λ c. search needs) slice-write-answers-4 (λ c. search needs) (λ c. search needs)
+    slice-write-answers-5 (λ c. search needs) (λ c. search needs) slice-write-answers-6 (λ c. search needs) returns)

@@ -16,5 +16,4 @@ write16-spec =
     tie.close
     (tie.spec
     (λ c. search needs) (λ c κs. search needs) (λ c. search needs) (λ c. search needs) (λ c κs. search needs)
-    (λ c. search needs)
-    returns)
+    (λ c. search needs) returns)

@@ -11,7 +11,5 @@ pub last-fault-spec : {M : Type 1} → statement M
 last-fault-spec =
     tie.close
     (tie.spec
-    (λ c κs. search needs) (λ c. search breaks-i6)
-    (λ c κs. search needs) (λ c. search (breaks-i7, keeps-i6))
-    i8-requires
-    (λ c. search (opens, keeps-i6, keeps-i7)))
+    (λ c κs. search needs) (λ c. search breaks-i6) (λ c κs. search needs) (λ c. search (breaks-i7, keeps-i6))
+    i8-requires (λ c. search (opens, keeps-i6, keeps-i7)))

@@ -21,9 +21,6 @@ pub next-fault-spec : {M : Type 1} → statement M
 next-fault-spec =
     tie.close
     (tie.spec
-    (λ c κs. search needs) (λ c. search (breaks-i2))
-    (λ c κs. search needs) (λ c. search (breaks-i3, keeps-i2))
+    (λ c κs. search needs) (λ c. search (breaks-i2)) (λ c κs. search needs) (λ c. search (breaks-i3, keeps-i2))
     (λ c κs. search needs) (λ c. search (breaks-i4, keeps-i2, keeps-i3))
-    (λ c κs. search needs) (λ c. search (breaks-i5, keeps-i2, keeps-i3, keeps-i4))
-    last-fault-requires
-    returns-5)
+    (λ c κs. search needs) (λ c. search (breaks-i5, keeps-i2, keeps-i3, keeps-i4)) last-fault-requires returns-5)

@@ -8,8 +8,6 @@ pub offset-spec : {M : Type 1} → statement M
 offset-spec =
     tie.close
     (tie.spec
-    (λ c κs. search needs)
-    (λ c. omega (arith, small _ (c .before .span-of .ensures)))
+    (λ c κs. search needs) (λ c. omega (arith, small _ (c .before .span-of .ensures)))
     (λ c. omega (arith, small _ (c .before .before .span-of .ensures)))
-    (λ c. omega (arith, small _ (c .before .before .span-of .ensures)))
-    (λ c. search needs))
+    (λ c. omega (arith, small _ (c .before .before .span-of .ensures))) (λ c. search needs))

@@ -43,13 +43,8 @@ pub all-events-spec : {M : Type 1} → statement M
 all-events-spec =
     tie.close
     (tie.spec
-    Inv-loop
-    μ-loop
+    Inv-loop μ-loop
     (λ c. search needs) (λ c. omega arith) (λ c. omega arith) (λ c. search needs) (λ c. search needs) (λ c. omega arith)
-    (λ c κs. search needs) (λ c. search needs) (λ c. omega arith)
-    add-line-requires
-    (λ c. search needs)
-    loop-again
-    (λ c. search needs)
-    slice-aggregate-write-all
+    (λ c κs. search needs) (λ c. search needs) (λ c. omega arith) add-line-requires (λ c. search needs) loop-again
+    (λ c. search needs) slice-aggregate-write-all
     (λ c κs. search needs) (λ c. search needs) (λ c. search needs) (λ c. search needs))

@@ -43,10 +43,6 @@ lesson-spec =
     tie.close
     (tie.spec
     (λ c κs. search needs) (λ c. search needs) (λ c κs. search needs) (λ c. search needs) (λ c κs. search needs)
-    array-share-prefix-out
-    slice-aggregate-write-all
-    (λ c κs. search needs) (λ c. search needs) (λ c. search needs)
+    array-share-prefix-out slice-aggregate-write-all (λ c κs. search needs) (λ c. search needs) (λ c. search needs)
     (λ c. search needs) (λ c κs. search needs) (λ c. search needs) (λ c. search needs)
-    (λ c. search needs) (λ c. search needs)
-    all-events-requires
-    (λ c. search needs) (λ c. search needs))
+    (λ c. search needs) (λ c. search needs) all-events-requires (λ c. search needs) (λ c. search needs))

@@ -33,10 +33,5 @@ pub copy-spec : {M : Type 1} → statement M
 copy-spec =
     tie.close
     (tie.spec
-    Inv-loop
-    μ-loop
-    loop-holds
-    (λ c. omega arith) (λ c. omega arith) (λ c. omega arith) (λ c. omega arith)
-    loop-again
-    (λ c. omega arith)
-    returns)
+    Inv-loop μ-loop loop-holds (λ c. omega arith) (λ c. omega arith) (λ c. omega arith) (λ c. omega arith) loop-again
+    (λ c. omega arith) returns)

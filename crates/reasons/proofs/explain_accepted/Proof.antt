@@ -15,7 +15,5 @@ explain-accepted-spec =
     tie.close
     (tie.spec
     (λ c κs. search needs) (λ c. search (needs, told-no-id))
-    (λ c κs. search needs) (λ c. search needs) (λ c κs. search needs) (λ c. search needs)
-    executable-requires
-    (λ c κs. search needs) (λ c. search (needs, told-unknown))
-    (λ c. search needs) (λ c. search (needs, told-known)))
+    (λ c κs. search needs) (λ c. search needs) (λ c κs. search needs) (λ c. search needs) executable-requires
+    (λ c κs. search needs) (λ c. search (needs, told-unknown)) (λ c. search needs) (λ c. search (needs, told-known)))

@@ -12,5 +12,4 @@ explain-short-spec =
     tie.close
     (tie.spec
     (λ c. search needs) (λ c κs. search needs) (λ c κs. search needs) (λ c. search needs) (λ c. search needs)
-    copy-requires
-    (λ c. search needs) (λ c. search (needs, explained-short)))
+    copy-requires (λ c. search needs) (λ c. search (needs, explained-short)))

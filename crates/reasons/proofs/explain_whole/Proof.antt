@@ -11,5 +11,4 @@ explain-whole-spec =
     tie.close
     (tie.spec
     (λ c κs. search needs) (λ c κs. search needs) (λ c κs. search needs) (λ c. search (needs, told-broken))
-    explain-accepted-requires
-    (λ c. search needs) (λ c. search needs))
+    explain-accepted-requires (λ c. search needs) (λ c. search needs))

@@ -75,13 +75,5 @@ pub reason-spec : {M : Type 1} → statement M
 reason-spec =
     tie.close
     (tie.spec
-    returns
-    (λ c κs. search needs)
-    returns-2
-    returns-3
-    returns-4
-    (λ c κs. search needs)
-    returns-5
-    (λ c κs. search needs)
-    returns-6
-    returns-7)
+    returns (λ c κs. search needs) returns-2 returns-3 returns-4 (λ c κs. search needs) returns-5
+    (λ c κs. search needs) returns-6 returns-7)

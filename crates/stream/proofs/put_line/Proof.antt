@@ -101,16 +101,6 @@ pub put-line-spec : {M : Type 1} → statement M
 put-line-spec =
     tie.close
     (tie.spec
-    (λ c κs. search needs)
-    put-column-requires
-    (λ c. search needs)
-    put-column-requires-2
-    (λ c. search needs)
-    put-column-requires-3
-    (λ c. search needs)
-    put-column-requires-4
-    (λ c. search needs)
-    put-text-requires
-    add-result
-    (λ c. search needs)
-    returns)
+    (λ c κs. search needs) put-column-requires (λ c. search needs) put-column-requires-2 (λ c. search needs)
+    put-column-requires-3 (λ c. search needs) put-column-requires-4 (λ c. search needs) put-text-requires add-result
+    (λ c. search needs) returns)

@@ -42,10 +42,5 @@ pub put-refusal-spec : {M : Type 1} → statement M
 put-refusal-spec =
     tie.close
     (tie.spec
-    (λ c. search needs) (λ c κs. search needs) (λ c κs. search needs)
-    put-column-requires-2
-    (λ c. search needs)
-    put-text-requires-2
-    add-result
-    (λ c. search needs)
-    returns)
+    (λ c. search needs) (λ c κs. search needs) (λ c κs. search needs) put-column-requires-2 (λ c. search needs)
+    put-text-requires-2 add-result (λ c. search needs) returns)

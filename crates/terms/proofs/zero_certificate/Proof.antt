@@ -27,7 +27,4 @@ zero-certificate-spec =
     (λ c. search needs) (λ c. search needs) (λ c. search needs) (λ c. search needs) (λ c. search needs)
     (λ c. search needs) (λ c. search needs) (λ c. search needs) (λ c. search needs) (λ c. search needs)
     (λ c. search needs) (λ c. search needs) (λ c. search needs) (λ c. search needs) (λ c. search needs)
-    (λ c. search needs) (λ c. search needs)
-    cast-result-10
-    add-result-9
-    returns)
+    (λ c. search needs) (λ c. search needs) cast-result-10 add-result-9 returns)

@@ -39,12 +39,5 @@ pub in-time-spec : {M : Type 1} → statement M
 in-time-spec =
     tie.close
     (tie.spec
-    Inv-loop
-    μ-loop
-    (λ c κs. search (needs, framed-header))
-    loop-holds
-    (λ c κs. search needs)
-    returns
-    (λ c κs. search needs) (λ c. search needs) (λ c. search needs)
-    loop-again
-    returns-2)
+    Inv-loop μ-loop (λ c κs. search (needs, framed-header)) loop-holds (λ c κs. search needs) returns
+    (λ c κs. search needs) (λ c. search needs) (λ c. search needs) loop-again returns-2)

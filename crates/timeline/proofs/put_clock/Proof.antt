@@ -11,5 +11,4 @@ put-clock-spec =
     tie.close
     (tie.spec
     (λ c. search needs) (λ c κs. search needs) (λ c. search needs) (λ c κs. search needs) (λ c. search needs)
-    (λ c κs. search needs) (λ c. search needs)
-    returns)
+    (λ c κs. search needs) (λ c. search needs) returns)

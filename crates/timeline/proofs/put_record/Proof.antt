@@ -41,7 +41,6 @@ put-record-spec =
     (λ c κs. search needs) (λ c κs. search needs)
     (λ c. omega (arith, framed-few)) (λ c. omega (arith, framed-few)) (λ c. search needs) (λ c. search needs)
     (λ c. search (needs, event-within)) (λ c κs. search needs) (λ c. omega (arith, framed-few)) (λ c. search needs)
-    returns
-    (λ c. omega (arith, framed-few)) (λ c. search needs) (λ c. search needs)
+    returns (λ c. omega (arith, framed-few)) (λ c. search needs) (λ c. search needs)
     (λ c. search (needs, event-within)) (λ c κs. search needs) (λ c. omega (arith, framed-few)) (λ c. search needs)
     returns-2)

@@ -12,5 +12,4 @@ record-fits-spec =
     (tie.spec
     (λ c. omega (arith, framed-few)) (λ c. omega (arith, framed-few)) (λ c κs. omega (arith, framed-whole))
     (λ c. omega (arith, framed-few)) (λ c κs. omega (arith, framed-whole))
-    (λ c. omega (arith, framed-few)) (λ c κs. omega (arith, framed-whole))
-    returns)
+    (λ c. omega (arith, framed-few)) (λ c κs. omega (arith, framed-whole)) returns)

@@ -22,11 +22,5 @@ pub unroll-spec : {M : Type 1} → statement M
 unroll-spec =
     tie.close
     (tie.spec
-    (λ c κs. search needs) (λ c κs. search needs)
-    returns
-    clock-requires
-    (λ c κs. search needs)
-    returns-2
-    put-records-requires
-    (λ c. search needs)
-    returns-3)
+    (λ c κs. search needs) (λ c κs. search needs) returns clock-requires (λ c κs. search needs) returns-2
+    put-records-requires (λ c. search needs) returns-3)

@@ -14,5 +14,4 @@ case-spec =
     (λ c. search needs) (λ c κs. search needs) (λ c. search needs) (λ c κs. search needs) (λ c. search needs)
     (λ c. search needs) (λ c κs. search needs) (λ c. search needs) (λ c κs. search needs) (λ c. search needs)
     (λ c κs. search needs) (λ c. search needs) (λ c κs. search needs) (λ c. search needs)
-    slice-aggregate-stream-differs
-    (λ c κs. search needs) (λ c. search needs) (λ c. search needs))
+    slice-aggregate-stream-differs (λ c κs. search needs) (λ c. search needs) (λ c. search needs))

@@ -12,5 +12,4 @@ open-part-spec =
     tie.close
     (tie.spec
     (λ c. search needs) (λ c κs. search needs) (λ c. search needs) (λ c κs. search needs) (λ c. search needs)
-    slice-aggregate-open-read
-    (λ c κs. search needs) (λ c. search needs))
+    slice-aggregate-open-read (λ c κs. search needs) (λ c. search needs))

@@ -31,17 +31,8 @@ stream-differs-spec =
     tie.close
     (tie.spec
     (λ c. search needs) (λ c κs. search needs) (λ c κs. search needs) (λ c. search needs)
-    (λ c κs. search needs) (λ c. search needs)
-    slice-aggregate-monitor-open
-    (λ c κs. search needs) (λ c κs. search needs) (λ c κs. search needs) (λ c. search needs)
-    slice-aggregate-read-last
-    (λ c. search needs)
-    read-last-requires
-    (λ c. search needs)
-    slice-aggregate-ways-differ
-    (λ c. search needs)
-    slice-aggregate-ways-differ-2
-    (λ c. search needs)
-    slice-aggregate-ways-differ-3
-    ways-differ-requires
+    (λ c κs. search needs) (λ c. search needs) slice-aggregate-monitor-open
+    (λ c κs. search needs) (λ c κs. search needs) (λ c κs. search needs) (λ c. search needs) slice-aggregate-read-last
+    (λ c. search needs) read-last-requires (λ c. search needs) slice-aggregate-ways-differ (λ c. search needs)
+    slice-aggregate-ways-differ-2 (λ c. search needs) slice-aggregate-ways-differ-3 ways-differ-requires
     (λ c. search needs) (λ c. search needs))

@@ -34,11 +34,7 @@ pub way-differs-spec : {M : Type 1} → statement M
 way-differs-spec =
     tie.close
     (tie.spec
-    (λ c κs. search needs) (λ c. search needs) (λ c κs. search needs) (λ c. search needs)
-    slice-aggregate-run-by
+    (λ c κs. search needs) (λ c. search needs) (λ c κs. search needs) (λ c. search needs) slice-aggregate-run-by
     (λ c. search needs) (λ c κs. search needs) (λ c κs. search needs) (λ c. search needs)
-    slice-aggregate-answers-differ
-    answers-differ-requires
-    array-share-prefix-image
-    slice-aggregate-image-differs
+    slice-aggregate-answers-differ answers-differ-requires array-share-prefix-image slice-aggregate-image-differs
     (λ c κs. search needs) (λ c. search needs) (λ c. search needs))

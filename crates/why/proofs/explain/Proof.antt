@@ -11,6 +11,5 @@ pub explain-spec : {M : Type 1} → statement M
 explain-spec =
     tie.close
     (tie.spec
-    (λ c. search needs) (λ c κs. search needs) (λ c. search needs)
-    slice-aggregate-lesson
+    (λ c. search needs) (λ c κs. search needs) (λ c. search needs) slice-aggregate-lesson
     (λ c κs. search needs) (λ c. search needs))

@@ -68,17 +68,5 @@ pub parse-spec : {M : Type 1} → statement M
 parse-spec =
     tie.close
     (tie.spec
-    Inv-loop
-    μ-loop
-    returns
-    returns-2
-    loop-holds
-    (λ c. omega arith)
-    returns-3
-    returns-4
-    mul-n
-    (λ c. omega arith)
-    add-n
-    (λ c. omega arith) (λ c. omega arith)
-    loop-again
-    returns-5)
+    Inv-loop μ-loop returns returns-2 loop-holds (λ c. omega arith) returns-3 returns-4 mul-n (λ c. omega arith) add-n
+    (λ c. omega arith) (λ c. omega arith) loop-again returns-5)

@@ -11,6 +11,5 @@ pub play-spec : {M : Type 1} → statement M
 play-spec =
     tie.close
     (tie.spec
-    (λ c κs. search needs) (λ c. search needs) (λ c. search needs) (λ c. search needs)
-    run-events-requires
+    (λ c κs. search needs) (λ c. search needs) (λ c. search needs) (λ c. search needs) run-events-requires
     (λ c. search needs) (λ c. search needs))

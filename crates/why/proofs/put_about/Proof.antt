@@ -32,8 +32,5 @@ pub put-about-spec : {M : Type 1} → statement M
 put-about-spec =
     tie.close
     (tie.spec
-    (λ c κs. search needs) (λ c. search needs) (λ c κs. search needs)
-    put-text-requires-2
-    add-result
-    (λ c. search needs)
-    returns)
+    (λ c κs. search needs) (λ c. search needs) (λ c κs. search needs) put-text-requires-2 add-result
+    (λ c. search needs) returns)

@@ -40,11 +40,6 @@ pub put-answer-spec : {M : Type 1} → statement M
 put-answer-spec =
     tie.close
     (tie.spec
-    (λ c. search needs) (λ c κs. search needs) (λ c κs. search needs) (λ c. search needs)
-    returns
-    (λ c κs. search needs) (λ c. search needs)
-    returns-2
-    (λ c. search needs)
-    put-page-requires
-    (λ c. search needs)
+    (λ c. search needs) (λ c κs. search needs) (λ c κs. search needs) (λ c. search needs) returns
+    (λ c κs. search needs) (λ c. search needs) returns-2 (λ c. search needs) put-page-requires (λ c. search needs)
     returns-3)

@@ -32,9 +32,6 @@ pub put-link-spec : {M : Type 1} → statement M
 put-link-spec =
     tie.close
     (tie.spec
-    (λ c. search needs) (λ c. search needs) (λ c κs. search needs) (λ c. search needs)
-    returns
+    (λ c. search needs) (λ c. search needs) (λ c κs. search needs) (λ c. search needs) returns
     (λ c. search needs) (λ c. search needs) (λ c κs. search needs) (λ c. search needs) (λ c. search needs)
-    put-about-requires-3
-    (λ c. search needs)
-    returns-2)
+    put-about-requires-3 (λ c. search needs) returns-2)

@@ -48,11 +48,6 @@ pub put-page-spec : {M : Type 1} → statement M
 put-page-spec =
     tie.close
     (tie.spec
-    Inv-loop
-    μ-loop
-    loop-holds
+    Inv-loop μ-loop loop-holds
     (λ c. omega arith) (λ c κs. omega arith) (λ c. omega arith) (λ c. omega arith) (λ c κs. omega arith)
-    (λ c κs. omega arith) (λ c. omega arith) (λ c. omega arith)
-    loop-again
-    (λ c. omega arith)
-    returns)
+    (λ c κs. omega arith) (λ c. omega arith) (λ c. omega arith) loop-again (λ c. omega arith) returns)

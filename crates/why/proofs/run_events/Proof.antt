@@ -30,12 +30,7 @@ pub run-events-spec : {M : Type 1} → statement M
 run-events-spec =
     tie.close
     (tie.spec
-    Inv-loop
-    μ-loop
-    loop-holds
+    Inv-loop μ-loop loop-holds
     (λ c κs. search needs) (λ c. search needs) (λ c. search needs) (λ c. search (needs, ran-fewer))
-    (λ c. search needs)
-    slice-aggregate-step-accepted
-    (λ c κs. search needs) (λ c. omega arith) (λ c. omega arith)
-    loop-again
-    (λ c. search needs) (λ c. search needs) (λ c. search (needs, ran-fewer)))
+    (λ c. search needs) slice-aggregate-step-accepted (λ c κs. search needs) (λ c. omega arith) (λ c. omega arith)
+    loop-again (λ c. search needs) (λ c. search needs) (λ c. search (needs, ran-fewer)))

@@ -21,8 +21,6 @@ pub tell-spec : {M : Type 1} → statement M
 tell-spec =
     tie.close
     (tie.spec
-    (λ c. search needs) (λ c κs. search needs)
-    array-share-prefix-out
-    slice-aggregate-write-all
+    (λ c. search needs) (λ c κs. search needs) array-share-prefix-out slice-aggregate-write-all
     (λ c κs. search needs) (λ c κs. search needs) (λ c. search needs) (λ c κs. search needs)
     (λ c κs. search needs) (λ c. search needs) (λ c κs. search needs) (λ c. search needs) (λ c. search needs))

@@ -90,10 +90,5 @@ pub allowed-on-spec : {M : Type 1} → statement M
 allowed-on-spec =
     tie.close
     (tie.spec
-    (λ c κs. search needs) (λ c. search needs) (λ c. search needs)
-    certificate-requires
-    may-act-requires
-    (λ c κs. search needs)
-    returns
-    returns-2
-    returns-3)
+    (λ c κs. search needs) (λ c. search needs) (λ c. search needs) certificate-requires may-act-requires
+    (λ c κs. search needs) returns returns-2 returns-3)

@@ -27,8 +27,4 @@ pub delete-certificate-spec : {M : Type 1} → statement M
 delete-certificate-spec =
     tie.close
     (tie.spec
-    (λ c κs. search needs)
-    returns
-    (λ c κs. search needs)
-    if-present-requires
-    returns-2)
+    (λ c κs. search needs) returns (λ c κs. search needs) if-present-requires returns-2)

@@ -45,9 +45,4 @@ pub if-present-spec : {M : Type 1} → statement M
 if-present-spec =
     tie.close
     (tie.spec
-    (λ c. search needs) (λ c. search needs)
-    certificate-requires
-    (λ c κs. search needs)
-    returns
-    returns-2
-    returns-3)
+    (λ c. search needs) (λ c. search needs) certificate-requires (λ c κs. search needs) returns returns-2 returns-3)

@@ -111,19 +111,7 @@ pub install-certificate-spec : {M : Type 1} → statement M
 install-certificate-spec =
     tie.close
     (tie.spec
-    (λ c κs. search needs) (λ c κs. search needs) (λ c κs. search needs)
-    returns
-    may-act-requires
-    returns-2
-    (λ c κs. search needs)
-    returns-3
-    (λ c κs. search needs)
-    returns-4
+    (λ c κs. search needs) (λ c κs. search needs) (λ c κs. search needs) returns may-act-requires returns-2
+    (λ c κs. search needs) returns-3 (λ c κs. search needs) returns-4
     (λ c κs. search needs) (λ c κs. search needs) (λ c. search needs) (λ c. search needs) (λ c. search needs)
-    returns-5
-    (λ c. search needs)
-    returns-6
-    returns-7
-    returns-8
-    returns-9
-    returns-10)
+    returns-5 (λ c. search needs) returns-6 returns-7 returns-8 returns-9 returns-10)

@@ -128,18 +128,6 @@ pub judge-listed-spec : {M : Type 1} → statement M
 judge-listed-spec =
     tie.close
     (tie.spec
-    Inv-loop
-    μ-loop
-    (λ c. search needs)
-    loop-holds
-    (λ c κs. search needs) (λ c κs. search needs)
-    add-i
-    (λ c. search needs)
-    returns
-    (λ c. search needs)
-    certificate-requires
-    (λ c κs. search needs) (λ c. search needs)
-    loop-again
-    (λ c. search needs)
-    loop-again-2
-    returns-2)
+    Inv-loop μ-loop (λ c. search needs) loop-holds (λ c κs. search needs) (λ c κs. search needs) add-i
+    (λ c. search needs) returns (λ c. search needs) certificate-requires (λ c κs. search needs) (λ c. search needs)
+    loop-again (λ c. search needs) loop-again-2 returns-2)

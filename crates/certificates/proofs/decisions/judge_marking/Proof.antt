@@ -66,7 +66,4 @@ judge-marking-spec =
     tie.close
     (tie.spec
     (λ c κs. search needs) (λ c κs. search needs) (λ c κs. search needs) (λ c κs. search needs)
-    judge-validity-requires
-    returns
-    returns-2
-    returns-3)
+    judge-validity-requires returns returns-2 returns-3)

@@ -110,12 +110,5 @@ pub judge-replacing-spec : {M : Type 1} → statement M
 judge-replacing-spec =
     tie.close
     (tie.spec
-    (λ c κs. search needs) (λ c κs. search needs)
-    returns
-    (λ c κs. search needs) (λ c κs. search needs)
-    judge-validity-requires
-    returns-2
-    (λ c κs. search needs)
-    returns-3
-    returns-4
-    returns-5)
+    (λ c κs. search needs) (λ c κs. search needs) returns (λ c κs. search needs) (λ c κs. search needs)
+    judge-validity-requires returns-2 (λ c κs. search needs) returns-3 returns-4 returns-5)

@@ -80,12 +80,5 @@ pub mark-invalid-spec : {M : Type 1} → statement M
 mark-invalid-spec =
     tie.close
     (tie.spec
-    (λ c κs. search needs)
-    returns
-    (λ c κs. search needs)
-    if-present-requires
-    (λ c. search needs) (λ c. search needs)
-    certificate-requires
-    returns-2
-    returns-3
-    returns-4)
+    (λ c κs. search needs) returns (λ c κs. search needs) if-present-requires (λ c. search needs) (λ c. search needs)
+    certificate-requires returns-2 returns-3 returns-4)

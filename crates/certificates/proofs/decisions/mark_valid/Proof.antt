@@ -78,12 +78,5 @@ pub mark-valid-spec : {M : Type 1} → statement M
 mark-valid-spec =
     tie.close
     (tie.spec
-    (λ c κs. search needs)
-    returns
-    (λ c κs. search needs)
-    if-present-requires
-    (λ c. search needs) (λ c. search needs)
-    judge-marking-requires
-    returns-2
-    returns-3
-    returns-4)
+    (λ c κs. search needs) returns (λ c κs. search needs) if-present-requires (λ c. search needs) (λ c. search needs)
+    judge-marking-requires returns-2 returns-3 returns-4)

@@ -82,10 +82,4 @@ pub message-spec : {M : Type 1} → statement M
 message-spec =
     tie.close
     (tie.spec
-    (λ c κs. search needs)
-    returns
-    judge-listed-requires
-    returns-2
-    (λ c κs. search needs)
-    returns-3
-    returns-4)
+    (λ c κs. search needs) returns judge-listed-requires returns-2 (λ c κs. search needs) returns-3 returns-4)

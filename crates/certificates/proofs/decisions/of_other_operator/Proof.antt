@@ -25,6 +25,4 @@ pub of-other-operator-spec : {M : Type 1} → statement M
 of-other-operator-spec =
     tie.close
     (tie.spec
-    (λ c κs. search needs) (λ c κs. search needs) (λ c κs. search needs)
-    returns
-    returns-2)
+    (λ c κs. search needs) (λ c κs. search needs) (λ c κs. search needs) returns returns-2)

@@ -60,10 +60,5 @@ pub replace-spec : {M : Type 1} → statement M
 replace-spec =
     tie.close
     (tie.spec
-    (λ c κs. search needs)
-    returns
-    (λ c κs. search needs) (λ c. search needs) (λ c. search needs)
-    certificate-requires
-    (λ c κs. search needs)
-    returns-2
-    returns-3)
+    (λ c κs. search needs) returns (λ c κs. search needs) (λ c. search needs) (λ c. search needs) certificate-requires
+    (λ c κs. search needs) returns-2 returns-3)

@@ -80,10 +80,5 @@ pub replace-by-spec : {M : Type 1} → statement M
 replace-by-spec =
     tie.close
     (tie.spec
-    (λ c κs. search needs)
-    if-present-requires
-    (λ c. search needs) (λ c. search needs)
-    judge-replacing-requires
-    returns
-    returns-2
-    returns-3)
+    (λ c κs. search needs) if-present-requires (λ c. search needs) (λ c. search needs) judge-replacing-requires
+    returns returns-2 returns-3)

@@ -41,9 +41,5 @@ pub mark-valid-spec : {M : Type 1} → statement M
 mark-valid-spec =
     tie.close
     (tie.spec
-    (λ c κs. search needs) (λ c κs. search needs) (λ c κs. search needs)
-    set-mark-requires
-    (λ c. search needs)
-    returns
-    (λ c κs. search needs) (λ c. search needs)
-    returns-2)
+    (λ c κs. search needs) (λ c κs. search needs) (λ c κs. search needs) set-mark-requires (λ c. search needs) returns
+    (λ c κs. search needs) (λ c. search needs) returns-2)

@@ -34,12 +34,5 @@ pub holds-key-spec : {M : Type 1} → statement M
 holds-key-spec =
     tie.close
     (tie.spec
-    Inv-loop
-    μ-loop
-    loop-holds
-    (λ c κs. omega arith)
-    certificate-requires
-    (λ c. search (some-stops, eq-eqb))
-    (λ c κs. omega arith) (λ c. search falls-to)
-    loop-again
-    returns-2)
+    Inv-loop μ-loop loop-holds (λ c κs. omega arith) certificate-requires (λ c. search (some-stops, eq-eqb))
+    (λ c κs. omega arith) (λ c. search falls-to) loop-again returns-2)

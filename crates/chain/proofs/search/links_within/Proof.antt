@@ -26,10 +26,4 @@ pub links-within-spec : {M : Type 1} → statement M
 links-within-spec =
     tie.close
     (tie.spec
-    returns
-    (λ c κs. search needs)
-    returns-2
-    (λ c. search needs)
-    climb-requires
-    one-more-requires
-    returns-3)
+    returns (λ c κs. search needs) returns-2 (λ c. search needs) climb-requires one-more-requires returns-3)

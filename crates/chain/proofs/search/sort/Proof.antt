@@ -64,16 +64,7 @@ pub sort-spec : {M : Type 1} → statement M
 sort-spec =
     tie.close
     (tie.spec
-    Inv-loop
-    μ-loop
-    (λ c κs. search needs)
-    loop-holds
-    (λ c. search needs) (λ c κs. search needs) (λ c. omega arith)
-    loop-again
-    (λ c κs. search needs) (λ c κs. omega arith) (λ c. omega arith)
-    loop-again-2
-    (λ c κs. search needs) (λ c. omega arith)
-    loop-again-3
-    (λ c κs. omega arith) (λ c. omega arith)
-    loop-again-4
+    Inv-loop μ-loop (λ c κs. search needs) loop-holds (λ c. search needs) (λ c κs. search needs) (λ c. omega arith)
+    loop-again (λ c κs. search needs) (λ c κs. omega arith) (λ c. omega arith) loop-again-2
+    (λ c κs. search needs) (λ c. omega arith) loop-again-3 (λ c κs. omega arith) (λ c. omega arith) loop-again-4
     returns)

@@ -67,16 +67,7 @@ pub sweep-spec : {M : Type 1} → statement M
 sweep-spec =
     tie.close
     (tie.spec
-    Inv-loop
-    μ-loop
-    (λ c κs. search needs)
-    loop-holds
-    (λ c. search needs) (λ c κs. search needs) (λ c κs. search needs) (λ c. omega arith)
-    loop-again
-    (λ c κs. search needs)
-    returns
-    (λ c κs. search needs) (λ c. omega arith)
-    loop-again-2
-    (λ c κs. omega arith) (λ c. omega arith)
-    loop-again-3
-    returns-2)
+    Inv-loop μ-loop (λ c κs. search needs) loop-holds
+    (λ c. search needs) (λ c κs. search needs) (λ c κs. search needs) (λ c. omega arith) loop-again
+    (λ c κs. search needs) returns (λ c κs. search needs) (λ c. omega arith) loop-again-2
+    (λ c κs. omega arith) (λ c. omega arith) loop-again-3 returns-2)

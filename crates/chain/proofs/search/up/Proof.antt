@@ -65,16 +65,5 @@ pub up-spec : {M : Type 1} → statement M
 up-spec =
     tie.close
     (tie.spec
-    Inv-loop
-    μ-loop
-    loop-holds
-    (λ c κs. omega arith) (λ c κs. omega arith)
-    certificate-requires
-    holds-key-requires
-    loop-less
-    loop-again
-    (λ c κs. search needs)
-    returns
-    loop-less-2
-    loop-again-2
-    returns-2)
+    Inv-loop μ-loop loop-holds (λ c κs. omega arith) (λ c κs. omega arith) certificate-requires holds-key-requires
+    loop-less loop-again (λ c κs. search needs) returns loop-less-2 loop-again-2 returns-2)

@@ -73,16 +73,6 @@ pub verified-spec : {M : Type 1} → statement M
 verified-spec =
     tie.close
     (tie.spec
-    Inv-loop
-    μ-loop
-    (λ c. search verified-nothing)
-    loop-holds
-    (λ c κs. omega arith) (λ c κs. omega arith)
-    certificate-requires
-    (λ c κs. search needs) (λ c. search falls-to)
-    loop-again
-    sub-found
-    add-found
-    (λ c. search falls-to)
-    loop-again-2
-    returns-2)
+    Inv-loop μ-loop (λ c. search verified-nothing) loop-holds (λ c κs. omega arith) (λ c κs. omega arith)
+    certificate-requires (λ c κs. search needs) (λ c. search falls-to) loop-again sub-found add-found
+    (λ c. search falls-to) loop-again-2 returns-2)

@@ -29,7 +29,5 @@ card-in-spec =
     (tie.spec
     (λ c κs. search needs) (λ c. search (card-in-told, here, says, fits))
     (λ c κs. search needs) (λ c. search (card-in-told, here, next, says, fits))
-    (λ c κs. search needs) (λ c. search (card-in-told, here, next, says, fits))
-    (λ c κs. search needs)
-    returns-4
+    (λ c κs. search needs) (λ c. search (card-in-told, here, next, says, fits)) (λ c κs. search needs) returns-4
     returns-5)

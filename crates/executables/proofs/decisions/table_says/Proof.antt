@@ -38,7 +38,4 @@ pub table-says-spec : {M : Type 1} → statement M
 table-says-spec =
     tie.close
     (tie.spec
-    (λ c κs. search needs) (λ c. search (gives, here, never))
-    (λ c κs. search needs)
-    returns-2
-    returns-3)
+    (λ c κs. search needs) (λ c. search (gives, here, never)) (λ c κs. search needs) returns-2 returns-3)

@@ -11,5 +11,4 @@ i5-with-spec =
     tie.close
     (tie.spec
     (λ c κs. search needs) (λ c κs. search needs) (λ c. search i5-spared) (λ c κs. search needs)
-    (λ c κs. search needs)
-    returns-2)
+    (λ c κs. search needs) returns-2)

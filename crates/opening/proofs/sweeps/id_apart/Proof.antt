@@ -55,13 +55,5 @@ pub id-apart-spec : {M : Type 1} → statement M
 id-apart-spec =
     tie.close
     (tie.spec
-    Inv-loop
-    μ-loop
-    (λ c κs. search needs)
-    returns
-    loop-holds
-    (λ c κs. search needs)
-    returns-2
-    (λ c. search needs) (λ c. search needs)
-    loop-again
-    returns-3)
+    Inv-loop μ-loop (λ c κs. search needs) returns loop-holds (λ c κs. search needs) returns-2
+    (λ c. search needs) (λ c. search needs) loop-again returns-3)

@@ -35,10 +35,5 @@ pub lowest-holder-spec : {M : Type 1} → statement M
 lowest-holder-spec =
     tie.close
     (tie.spec
-    Inv-loop
-    μ-loop
-    (λ c κs. search needs) (λ c κs. search needs)
-    loop-holds
-    (λ c. search needs) (λ c κs. search needs) (λ c κs. search needs) (λ c. search needs)
-    loop-again
-    returns)
+    Inv-loop μ-loop (λ c κs. search needs) (λ c κs. search needs) loop-holds
+    (λ c. search needs) (λ c κs. search needs) (λ c κs. search needs) (λ c. search needs) loop-again returns)

@@ -56,13 +56,5 @@ pub listed-not-zero-spec : {M : Type 1} → statement M
 listed-not-zero-spec =
     tie.close
     (tie.spec
-    Inv-loop
-    μ-loop
-    (λ c. search needs)
-    loop-holds
-    (λ c κs. search needs)
-    returns
-    add-i
-    (λ c. search needs)
-    loop-again
+    Inv-loop μ-loop (λ c. search needs) loop-holds (λ c κs. search needs) returns add-i (λ c. search needs) loop-again
     returns-2)

@@ -16,6 +16,5 @@ pub message-form-spec : {M : Type 1} → statement M
 message-form-spec =
     tie.close
     (tie.spec
-    returns
-    (λ c. search needs) (λ c. search needs) (λ c. search needs) (λ c κs. search needs) (λ c κs. search needs)
+    returns (λ c. search needs) (λ c. search needs) (λ c. search needs) (λ c κs. search needs) (λ c κs. search needs)
     returns-2)

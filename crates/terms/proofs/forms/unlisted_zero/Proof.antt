@@ -37,12 +37,5 @@ pub unlisted-zero-spec : {M : Type 1} → statement M
 unlisted-zero-spec =
     tie.close
     (tie.spec
-    Inv-loop
-    μ-loop
-    (λ c. search needs)
-    loop-holds
-    (λ c κs. search needs)
-    returns
-    (λ c. search needs) (λ c. search needs)
-    loop-again
-    returns-2)
+    Inv-loop μ-loop (λ c. search needs) loop-holds (λ c κs. search needs) returns
+    (λ c. search needs) (λ c. search needs) loop-again returns-2)
