@@ -2,12 +2,9 @@
 use mathlib.Core.Path.{_≡_, sym, ap, ap₂, _∙_, subst}
 use Prim.Native.Nat.{ℕ, suc, _+_, _-_, _*_, _/_, _%_, _^_, _<_, _≤_, max}
 use native.Mathlib.Nat.{mod-lt, add-zero, one-mul, mod-eq-of-lt, div-eq-of-lt, mul-comm, mod-mod, mul-sub, mul-le-mul-right, max-eq-right, le-of-suc-le-suc}
-use native.Mathlib.Omega.{arith}
+use native.{Mathlib.Omega.arith, Mathlib.Decide.decLt}
 use lib.Pow.{field, mod-mod-pow, pow-pos, pow-add, pow-mono, ones-lt, split, high, low, shl-exact, shr-lt, shr-shr}
-use native.Mathlib.Decide.{decLt}
-use lib.Bits.{bitAnd, bitOr, and-mask, or-block, and-block, or-step, or-zero-r, or-shr, or-mod, and-high}
-use lib.Arith.{digits-lt}
-use lib.Dec.{lit<}
+use lib.{Bits.{bitAnd, bitOr, and-mask, or-block, and-block, or-step, or-zero-r, or-shr, or-mod, and-high}, Arith.digits-lt, Dec.lit<}
 use Rattle.bits.specs.Bits.{digit, put-digit}
 
 -- 1 << k in n bits

@@ -1,20 +1,11 @@
 -- Words with a bit a slot, of any width: how one is built, how a loop goes from bit to bit, and what the operations on them are. Assumes nothing.
 use Prim.Native.Nat.{ℕ, zero, suc, _+_, _-_, _*_, _/_, _%_, _^_, _≤_, _<_, min, max}
-use mathlib.Core.Bool.{Bool, true, false, cond, not, _&&_, _||_}
-use mathlib.Core.List.{List, [], _∷_}
-use mathlib.Core.Logic.{_≢_}
-use mathlib.Core.Path.{_≡_, refl, sym, ap, ap₂, _∙_, subst}
-use native.Mathlib.Nat.{pow-suc, div-lt-iff-lt-mul, zero-lt-suc, zero-mul, one-mul, add-mul, mul-assoc, mul-comm}
-use native.Mathlib.Numerals.{add-one}
+use mathlib.Core.{Bool.{Bool, true, false, cond, not, _&&_, _||_}, List.{List, [], _∷_}, Logic._≢_, Path.{_≡_, refl, sym, ap, ap₂, _∙_, subst}}
+use native.{Mathlib.Nat.{pow-suc, div-lt-iff-lt-mul, zero-lt-suc, zero-mul, one-mul, add-mul, mul-assoc, mul-comm}, Mathlib.Numerals.add-one}
 use native.Mathlib.Omega.{arith}
-use lib.Dec.{eqb}
-use lib.ListN.{length, getD, drop, drop-of-length-le}
-use lib.Seq.{drop-cons}
-use lib.Pow.{pow-pos, pow-mono}
-use lib.Bits.{bitAnd, bitOr, bitXor, differ, and-step, or-step, xor-step, and-self}
-use lib.Count.{trailingZeros, under}
-use Rattle.bits.specs.Bits.{set-bit}
-use Rattle.bits.specs.SlotWord.{word, any-of, keep, less-lowest}
+use lib.{Dec.eqb, ListN.{length, getD, drop, drop-of-length-le}, Seq.drop-cons, Pow.{pow-pos, pow-mono}}
+use lib.{Bits.{bitAnd, bitOr, bitXor, differ, and-step, or-step, xor-step, and-self}, Count.{trailingZeros, under}}
+use Rattle.bits.specs.{Bits.set-bit, SlotWord.{word, any-of, keep, less-lowest}}
 use Rattle.bits.proofs.BitLaws.{put-above}
 
 half-lt : (w k : ℕ) → w < 2 ^ suc k → w / 2 < 2 ^ k

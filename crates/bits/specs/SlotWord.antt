@@ -1,9 +1,7 @@
 -- A word with a bit for each slot, the lowest for the first. Definitions only.
 use Prim.Native.Nat.{ℕ, _+_, _-_, _*_, _/_, _%_, _^_}
-use mathlib.Core.Bool.{Bool, false, cond, _&&_, _||_}
-use mathlib.Core.List.{List, [], _∷_}
-use lib.Dec.{eqb}
-use lib.Count.{trailingZeros}
+use mathlib.Core.{Bool.{Bool, false, cond, _&&_, _||_}, List.{List, [], _∷_}}
+use lib.{Dec.eqb, Count.trailingZeros}
 
 -- the word whose bit i is set exactly where slot i passes the test
 unfoldable pub word : {A : Type 0} → (A → Bool) → List A → ℕ

@@ -1,21 +1,14 @@
 -- The rows of the table of codes that matter for events about certificates. Assumes nothing.
 use Prim.Native.Nat.{ℕ, _<_}
-use mathlib.Core.Bool.{Bool, true, false, cond, not, _&&_, _||_, and-true, or-false}
-use mathlib.Core.List.{List, [], _∷_, _++_}
-use mathlib.Core.Path.{_≡_, refl, subst, _∙_}
+use mathlib.Core.{Bool.{Bool, true, false, cond, not, _&&_, _||_, and-true, or-false}, List.{List, [], _∷_, _++_}, Path.{_≡_, refl, subst, _∙_}}
 use lib.Dec.{eqb}
-use Rattle.records.specs.Phone.{Phone}
-use Rattle.records.specs.declared.Certificate.{Certificate}
-use Rattle.records.specs.declared.Event.{Event}
-use Rattle.rules.specs.Words.{any, Check, _⇒_, first}
-use Rattle.rules.specs.Chains.{present}
-use Rattle.rules.specs.ImageRules.{certificate-fits, known-place, operator-of, operator-root, third-party-root}
-use Rattle.rules.specs.Actors.{may-act}
+use Rattle.records.specs.{Phone.Phone, declared.Certificate.Certificate, declared.Event.Event}
+use Rattle.rules.specs.{Words.{any, Check, _⇒_, first}, Chains.present}
+use Rattle.rules.specs.{ImageRules.{certificate-fits, known-place, operator-of, operator-root, third-party-root}, Actors.may-act}
 use Rattle.rules.specs.Forms.{new-certificate, listed, with-kind, owned-form, message-form, replace-form}
 use Rattle.rules.specs.Codes.{has-id, in-another, certificate-named, certificate-known, code-of}
 use Rattle.handling.specs.Plans.{certificate-rows}
-use Rattle.handling.proofs.CodeRows.{Gives, gives}
-use Rattle.handling.proofs.TheTable.{the-table, small-actor}
+use Rattle.handling.proofs.{CodeRows.{Gives, gives}, TheTable.{the-table, small-actor}}
 use Rattle.certificates.specs.MarkingRows.{marking-rows, replacing-rows}
 
 -- c is the certificate to install

@@ -1,21 +1,12 @@
 -- What the room for one more certificate tells of an install: its code, where 11 comes before the last, and the slot that is filled. Assumes nothing.
 use Prim.Native.Nat.{ℕ, _<_}
-use mathlib.Core.Bool.{Bool, true, false, cond, not}
-use mathlib.Core.List.{List, [], _∷_}
-use mathlib.Core.Path.{_≡_, refl, sym, ap, subst, _∙_}
+use mathlib.Core.{Bool.{Bool, true, false, cond, not}, List.{List, [], _∷_}, Path.{_≡_, refl, sym, ap, subst, _∙_}}
 use native.Mathlib.Omega.{arith}
 use lib.ListN.{length}
-use Rattle.records.specs.Phone.{Phone}
-use Rattle.records.specs.declared.Certificate.{Certificate}
-use Rattle.records.specs.declared.Event.{Event}
-use Rattle.rules.specs.Words.{any, _⇒_, first, first-place}
-use Rattle.rules.specs.Forms.{with-kind}
-use Rattle.rules.specs.Codes.{has-id, in-another, code-of}
-use Rattle.lookup.specs.declared.Room.the-variants.{Taken, Full, Free}
-use Rattle.lookup.specs.declared.CertificateRoom.{CertificateRoom}
-use Rattle.lookup.specs.RoomForOne.{certificate-room}
-use Rattle.handling.specs.declared.Plan.{Plan}
-use Rattle.handling.specs.Plans.{for-certificate}
+use Rattle.records.specs.{Phone.Phone, declared.Certificate.Certificate, declared.Event.Event}
+use Rattle.rules.specs.{Words.{any, _⇒_, first, first-place}, Forms.with-kind, Codes.{has-id, in-another, code-of}}
+use Rattle.lookup.specs.{declared.Room.the-variants.{Taken, Full, Free}, declared.CertificateRoom.CertificateRoom, RoomForOne.certificate-room}
+use Rattle.handling.specs.{declared.Plan.Plan, Plans.for-certificate}
 use Rattle.handling.proofs.PlanLaws.{on-code, on-slot, free-certificate-within}
 
 abbrev pub certificate-code : Bool → CertificateRoom → ℕ

@@ -1,14 +1,9 @@
 -- What a message makes of a root, by a write of `enabled`: x is what was read, and c what stands in the slot. Assumes nothing.
 use Prim.Native.Nat.{ℕ}
-use mathlib.Core.Bool.{true, false, cond, not, _&&_}
-use mathlib.Core.Path.{_≡_, sym, ap, _∙_}
+use mathlib.Core.{Bool.{true, false, cond, not, _&&_}, Path.{_≡_, sym, ap, _∙_}}
 use lib.Dec.{eqb}
-use Rattle.records.specs.Phone.{enabling}
-use Rattle.records.specs.declared.Certificate.{Certificate}
-use Rattle.records.specs.declared.Event.{Event}
-use Rattle.rules.specs.Words.{at}
-use Rattle.rules.specs.ImageRules.{third-party-root}
-use Rattle.rules.specs.Effects.{enabled-by}
+use Rattle.records.specs.{Phone.enabling, declared.Certificate.Certificate, declared.Event.Event}
+use Rattle.rules.specs.{Words.at, ImageRules.third-party-root, Effects.enabled-by}
 use Rattle.chain.specs.Breaks.{disables}
 
 -- a third party root is written, and any other record is not

@@ -1,22 +1,14 @@
 -- A certificate marked valid by a write to its slot; where it is a card's operator root, those on the phone are retired first. Assumes nothing.
 use Prim.Native.Nat.{ℕ, _<_}
-use mathlib.Core.Bool.{Bool, true, false, cond, _&&_}
-use mathlib.Core.List.{List, map, map-map, map-congr-left}
-use mathlib.Core.Path.{_≡_, refl, sym, ap, _∙_, subst}
+use mathlib.Core.{Bool.{Bool, true, false, cond, _&&_}, List.{List, map, map-map, map-congr-left}, Path.{_≡_, refl, sym, ap, _∙_, subst}}
 use native.Mathlib.Omega.{arith}
-use lib.Dec.{T, eqb→eq}
-use lib.ListN.{length, getD, length-map, List·getD-map}
-use Rattle.records.specs.Phone.{decode, encode, no-certificate, certificate-at, with-certificates, put-certificate, marked}
-use Rattle.records.specs.Frame.{Framed}
-use Rattle.records.specs.declared.Certificate.{Certificate}
-use Rattle.records.specs.declared.Event.{Event}
-use Rattle.rules.specs.Words.{at, distinct, first-place}
-use Rattle.rules.specs.Codes.{has-id, certificate-named}
-use Rattle.rules.specs.Effects.{phone-operator-root, on-a-card, after-marking, mark-valid}
-use Rattle.laws.proofs.Slots.{set-is}
-use Rattle.rules.specs.AcceptedImage.{Accepted-image}
+use lib.{Dec.{T, eqb→eq}, ListN.{length, getD, length-map, List·getD-map}}
+use Rattle.records.specs.{Phone.{decode, encode, no-certificate, certificate-at, with-certificates, put-certificate, marked}, Frame.Framed}
+use Rattle.records.specs.{declared.Certificate.Certificate, declared.Event.Event}
+use Rattle.rules.specs.{Words.{at, distinct, first-place}, Codes.{has-id, certificate-named}}
+use Rattle.rules.specs.{Effects.{phone-operator-root, on-a-card, after-marking, mark-valid}, AcceptedImage.Accepted-image}
+use Rattle.laws.proofs.{Slots.set-is, Tables.{certificates, says, framed-as}}
 use Rattle.handling.specs.Retiring.{outgoing, retire}
-use Rattle.laws.proofs.Tables.{certificates, says, framed-as}
 use Rattle.handling.proofs.SlotWrites.{passes-there, find-there, write-is-change}
 
 -- ---- one certificate

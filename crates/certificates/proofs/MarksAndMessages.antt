@@ -1,23 +1,15 @@
 -- What an event about certificates leaves to settle: nothing, or the domain of the certificate that it names. Assumes nothing.
 use Prim.Native.Nat.{ℕ, _<_}
-use mathlib.Core.Bool.{false}
-use mathlib.Core.List.{List}
-use mathlib.Core.Path.{_≡_, ap, _∙_}
+use mathlib.Core.{Bool.false, List.List, Path.{_≡_, ap, _∙_}}
 use native.Mathlib.Omega.{arith}
-use Rattle.records.specs.Phone.{Phone, no-certificate, marked, decode, encode}
-use Rattle.records.specs.declared.Certificate.{Certificate}
-use Rattle.records.specs.declared.Event.{Event}
-use Rattle.rules.specs.Words.{any}
-use Rattle.rules.specs.Forms.{with-kind, new-certificate}
-use Rattle.rules.specs.Codes.{certificate-named}
-use Rattle.rules.specs.Effects.{effect, changed, install-certificate, on-a-card, mark-valid, enabled-by, message, delete-certificate, mark-invalid}
-use Rattle.rules.specs.Effects.{replaced, replace}
+use Rattle.records.specs.{Phone.{Phone, no-certificate, marked, decode, encode}, declared.Certificate.Certificate, declared.Event.Event}
+use Rattle.rules.specs.{Words.any, Forms.{with-kind, new-certificate}, Codes.certificate-named}
+use Rattle.rules.specs.Effects.{effect, changed, install-certificate, on-a-card, mark-valid, enabled-by, message, delete-certificate, mark-invalid, replaced}
+use Rattle.rules.specs.Effects.{replace}
 use Rattle.laws.proofs.Accepted.{Accepted}
-use Rattle.chain.specs.Breaks.{disables}
-use Rattle.chain.specs.Settling.{settle-in}
+use Rattle.chain.specs.{Breaks.disables, Settling.settle-in}
 use Rattle.certificates.specs.StoredCertificate.{stored}
-use Rattle.chain.proofs.Still.{filling-still, marking-still, enabling-still}
-use Rattle.chain.proofs.Own.{own-settles}
+use Rattle.chain.proofs.{Still.{filling-still, marking-still, enabling-still}, Own.own-settles}
 
 module _ (p : Phone) (ok : Accepted p) (e : Event) where
   pub certificate-still : changed (with-kind 5 e) p ≡ effect (with-kind 5 e) p

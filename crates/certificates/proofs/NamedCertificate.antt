@@ -1,28 +1,16 @@
 -- An event on the certificate that it names: from the rows to its plan, and from the plan to the slot. Assumes nothing.
 use Prim.Native.Nat.{ℕ, _<_}
-use mathlib.Core.Bool.{Bool, true, false, cond, not}
-use mathlib.Core.List.{List, [], _∷_, _++_}
-use mathlib.Core.Logic.{_≢_}
-use mathlib.Core.Path.{_≡_, refl, sym, ap, subst, _∙_}
+use mathlib.Core.{Bool.{Bool, true, false, cond, not}, List.{List, [], _∷_, _++_}, Logic._≢_, Path.{_≡_, refl, sym, ap, subst, _∙_}}
 use native.Mathlib.Omega.{arith}
-use lib.Dec.{T, T-not, eqb}
-use lib.ListN.{length, getD, drop}
-use Rattle.records.specs.Phone.{Phone, certificate-at}
-use Rattle.records.specs.declared.Certificate.{Certificate}
-use Rattle.records.specs.declared.Event.{Event}
-use Rattle.rules.specs.Words.{Check, _⇒_, first, first-place}
-use Rattle.rules.specs.Chains.{present}
-use Rattle.rules.specs.Forms.{with-kind, forms, no-form, owned-form}
+use lib.{Dec.{T, T-not, eqb}, ListN.{length, getD, drop}}
+use Rattle.records.specs.{Phone.{Phone, certificate-at}, declared.Certificate.Certificate, declared.Event.Event}
+use Rattle.rules.specs.{Words.{Check, _⇒_, first, first-place}, Chains.present, Forms.{with-kind, forms, no-form, owned-form}}
 use Rattle.rules.specs.Codes.{has-id, names-certificate, certificate-known, certificate-named, code-of}
-use Rattle.handling.specs.declared.Plan.{Plan}
-use Rattle.handling.specs.Plans.{plan, on-certificate, allowed-rows, certificate-rows}
+use Rattle.handling.specs.{declared.Plan.Plan, Plans.{plan, on-certificate, allowed-rows, certificate-rows}}
 use Rattle.laws.proofs.Tests.{and-l, and-r, eq→eqb, coded}
-use Rattle.handling.proofs.CodeRows.{none, here, next, gives}
-use Rattle.handling.proofs.Decided.{formed, refused-first, refused-next, on-next}
+use Rattle.handling.proofs.{CodeRows.{none, here, next, gives}, Decided.{formed, refused-first, refused-next, on-next}, Handles.named-id}
+use Rattle.handling.proofs.{Named.certificate-here, PlanLaws.{on-code, on-slot, certificate-within}}
 use Rattle.lookup.proofs.FirstWithin.{first-within}
-use Rattle.handling.proofs.Handles.{named-id}
-use Rattle.handling.proofs.Named.{certificate-here}
-use Rattle.handling.proofs.PlanLaws.{on-code, on-slot, certificate-within}
 use Rattle.certificates.specs.Decisions.{allowed-plan, certificate-plan, if-present, On-a-slot, Present-at}
 use Rattle.certificates.proofs.CertificateCodes.{on-rows}
 

@@ -1,12 +1,9 @@
 -- Whether an operator root is of another operator than a card, from what is answered of both. Assumes nothing.
 use Prim.Native.Nat.{ℕ}
-use mathlib.Core.Bool.{Bool, true, false, not, _&&_}
-use mathlib.Core.Path.{_≡_, sym, ap, _∙_}
+use mathlib.Core.{Bool.{Bool, true, false, not, _&&_}, Path.{_≡_, sym, ap, _∙_}}
 use lib.Dec.{eqb}
-use Rattle.records.specs.Phone.{Phone}
-use Rattle.records.specs.declared.Certificate.{Certificate}
-use Rattle.rules.specs.ImageRules.{operator-of}
-use Rattle.rules.specs.Effects.{phone-operator-root, on-a-card}
+use Rattle.records.specs.{Phone.Phone, declared.Certificate.Certificate}
+use Rattle.rules.specs.{ImageRules.operator-of, Effects.{phone-operator-root, on-a-card}}
 use Rattle.certificates.specs.Decisions.{of-other-card, of-other-operator}
 
 yes : (a b : Bool) → a ≡ true → b ≡ (a && b)

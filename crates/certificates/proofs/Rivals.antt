@@ -1,26 +1,14 @@
 -- What stands in the way of a root that is present, on an accepted phone: less has to be asked there than 13 says. Assumes nothing.
 use Prim.Native.Nat.{ℕ}
-use mathlib.Core.Bool.{Bool, true, false, cond, not, _&&_, _||_}
-use mathlib.Core.List.{List, [], _∷_, List·Memᴰ, List·Memᴰ·head, List·Memᴰ·tail}
-use mathlib.Core.Logic.{_≢_, _⊎_, inl, inr}
+use mathlib.Core.{Bool.{Bool, true, false, cond, not, _&&_, _||_}, List.{List, [], _∷_, List·Memᴰ, List·Memᴰ·head, List·Memᴰ·tail}, Logic.{_≢_, _⊎_, inl, inr}}
 use mathlib.Core.Path.{_≡_, refl, sym, subst, ap, ap₂, _∙_}
 use native.Mathlib.Omega.{arith}
 use borrow.Author.Tests.{eq-eqb, ne-eqb}
 use lib.Dec.{T, eqb, eqb→eq}
-use Rattle.records.specs.Phone.{Seen, Phone, decode, certificate-at, no-certificate}
-use Rattle.records.specs.declared.Certificate.{Certificate}
-use Rattle.rules.specs.Words.{any}
-use Rattle.rules.specs.Chains.{present, valid-root, in-date}
-use Rattle.rules.specs.Codes.{rival}
-use Rattle.rules.specs.ImageRules.{slot-fits}
-use Rattle.rules.specs.AcceptedImage.{Accepted-image}
-use Rattle.laws.proofs.Tests.{and-l, or-cases, by-test, neqb→ne}
-use Rattle.laws.proofs.Accepts.{true-T, accepted-out}
-use Rattle.laws.proofs.Slots.{mem-at}
-use Rattle.laws.proofs.Fits.{slot-out, slot-in}
-use Rattle.laws.proofs.Accepted.{Occupied}
-use Rattle.certificates.specs.Decisions.{Present-at}
-use Rattle.certificates.specs.MarkingRows.{near-rival}
+use Rattle.records.specs.{Phone.{Seen, Phone, decode, certificate-at, no-certificate}, declared.Certificate.Certificate}
+use Rattle.rules.specs.{Words.any, Chains.{present, valid-root, in-date}, Codes.rival, ImageRules.slot-fits, AcceptedImage.Accepted-image}
+use Rattle.laws.proofs.{Tests.{and-l, or-cases, by-test, neqb→ne}, Accepts.{true-T, accepted-out}, Slots.mem-at, Fits.{slot-out, slot-in}, Accepted.Occupied}
+use Rattle.certificates.specs.{Decisions.Present-at, MarkingRows.near-rival}
 
 -- v: x is a valid root; d: of the same domain; a: the same one
 regrouped : (a v d b n m : Bool) → (T v → T d → n ≡ (b && m)) → (not a && v && d && n) ≡ (b && (v && d && not a && m))

@@ -1,19 +1,11 @@
 -- What is decided of an event about certificates, step by step. Definitions only.
 use Prim.Native.Nat.{ℕ, _<_}
-use mathlib.Core.Bool.{Bool, true, not, cond, _&&_}
-use mathlib.Core.Path.{_≡_}
-use lib.Dec.{eqb}
-use lib.ListN.{length}
-use Rattle.records.specs.Phone.{Phone, certificate-at}
-use Rattle.records.specs.declared.Certificate.{Certificate}
-use Rattle.records.specs.declared.Event.{Event}
-use Rattle.rules.specs.Words.{any, first, first-place}
-use Rattle.rules.specs.Chains.{present}
-use Rattle.rules.specs.ImageRules.{operator-of, operator-root, third-party-root}
-use Rattle.rules.specs.Forms.{listed}
+use mathlib.Core.{Bool.{Bool, true, not, cond, _&&_}, Path._≡_}
+use lib.{Dec.eqb, ListN.length}
+use Rattle.records.specs.{Phone.{Phone, certificate-at}, declared.Certificate.Certificate, declared.Event.Event}
+use Rattle.rules.specs.{Words.{any, first, first-place}, Chains.present, ImageRules.{operator-of, operator-root, third-party-root}, Forms.listed}
 use Rattle.rules.specs.Codes.{has-id, certificate-known, certificate-named}
-use Rattle.handling.specs.declared.Plan.{Plan}
-use Rattle.handling.specs.Plans.{plan, allowed-rows, certificate-rows}
+use Rattle.handling.specs.{declared.Plan.Plan, Plans.{plan, allowed-rows, certificate-rows}}
 
 -- 11: c is "an operator root on a card of another operator"
 abbrev pub of-other-card : Phone → Certificate → Bool

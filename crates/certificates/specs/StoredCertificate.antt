@@ -1,8 +1,6 @@
 -- What an event about certificates writes. Definitions only.
-use Rattle.records.specs.Phone.{Phone, with-certificates}
-use Rattle.records.specs.declared.Certificate.{Certificate}
-use Rattle.rules.specs.Words.{fill}
-use Rattle.rules.specs.ImageRules.{free-certificate}
+use Rattle.records.specs.{Phone.{Phone, with-certificates}, declared.Certificate.Certificate}
+use Rattle.rules.specs.{Words.fill, ImageRules.free-certificate}
 
 -- c in the lowest free slot
 abbrev pub stored : Certificate → Phone → Phone

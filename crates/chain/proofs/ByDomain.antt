@@ -1,20 +1,11 @@
 -- I8 of one executable, by the good slots of the domain that it has: I7 leaves none a domain above 3. Assumes nothing.
 use Prim.Native.Nat.{ℕ, _≤_, _<_}
-use mathlib.Core.Bool.{Bool, true}
-use mathlib.Core.List.{List·Memᴰ}
-use mathlib.Core.Logic.{_≢_}
-use mathlib.Core.Path.{_≡_, refl, _∙_}
+use mathlib.Core.{Bool.{Bool, true}, List.List·Memᴰ, Logic._≢_, Path.{_≡_, refl, _∙_}}
 use borrow.Author.Tests.{eq-eqb, ne-eqb}
-use lib.Dec.{T}
-use lib.ListN.{length}
-use Rattle.records.specs.Phone.{Trust, Phone, executable-at, no-executable}
-use Rattle.records.specs.declared.Executable.{Executable}
+use lib.{Dec.T, ListN.length}
+use Rattle.records.specs.{Phone.{Trust, Phone, executable-at, no-executable}, declared.Executable.Executable}
 use Rattle.rules.specs.ImageRules.{i7, executable-slot-fits, chained-fits}
-use Rattle.laws.proofs.Promise.{executable-domain}
-use Rattle.laws.proofs.Fits.{executable-out}
-use Rattle.laws.proofs.Lists.{all-out}
-use Rattle.laws.proofs.Slots.{mem-at}
-use Rattle.laws.proofs.Tests.{tests}
+use Rattle.laws.proofs.{Promise.executable-domain, Fits.executable-out, Lists.all-out, Slots.mem-at, Tests.tests}
 use Rattle.chain.specs.SlotWords.{chained-in}
 
 known : (p : Phone) → T (i7 p) → (x : Executable) → List·Memᴰ x (p .executables) → x .domain ≤ 3

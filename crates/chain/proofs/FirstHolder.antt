@@ -1,25 +1,15 @@
 -- The first record with a key tells the domain that the key chains to, where it chains at all. Assumes nothing.
 use Prim.Native.Nat.{ℕ, _+_, _≤_, _<_}
-use mathlib.Core.Bool.{Bool, true, false, cond}
-use mathlib.Core.List.{List·Memᴰ}
-use mathlib.Core.Logic.{_≢_, _⊎_, inl, inr}
-use mathlib.Core.Path.{_≡_, refl, sym, ap, _∙_}
+use mathlib.Core.{Bool.{Bool, true, false, cond}, List.List·Memᴰ, Logic.{_≢_, _⊎_, inl, inr}, Path.{_≡_, refl, sym, ap, _∙_}}
 use native.Mathlib.Omega.{arith}
 use borrow.Author.Tests.{eq-eqb, ne-eqb}
-use lib.Dec.{T, eqb, eqb→eq}
-use lib.ListN.{length, drop}
-use Rattle.records.specs.Phone.{Trust, no-certificate}
-use Rattle.records.specs.declared.Certificate.{Certificate}
-use Rattle.rules.specs.declared.Chained.{Chained}
-use Rattle.rules.specs.Words.{any, find, least}
-use Rattle.rules.specs.Chains.{serves, good, most-links, within, chains-to, chain-domain, links, chain-of}
-use Rattle.laws.proofs.Tests.{tests, eq→eqb, neqb→ne}
-use Rattle.laws.proofs.Lists.{any-out, any-in, find-in}
-use Rattle.laws.proofs.Loops.{find-here, find-next, find-end}
-use Rattle.laws.proofs.Least.{least-small, least-passes, least-least}
-use Rattle.laws.proofs.Domain.{chain-domain-is, chain-found}
-use Rattle.chain.specs.SlotWords.{slot, holder}
+use lib.{Dec.{T, eqb, eqb→eq}, ListN.{length, drop}}
+use Rattle.records.specs.{Phone.{Trust, no-certificate}, declared.Certificate.Certificate}
+use Rattle.rules.specs.{declared.Chained.Chained, Words.{any, find, least}, Chains.{serves, good, most-links, within, chains-to, chain-domain, links, chain-of}}
 use Rattle.rules.specs.AcceptedImage.{Keyed}
+use Rattle.laws.proofs.{Tests.{tests, eq→eqb, neqb→ne}, Lists.{any-out, any-in, find-in}, Loops.{find-here, find-next, find-end}}
+use Rattle.laws.proofs.{Least.{least-small, least-passes, least-least}, Domain.{chain-domain-is, chain-found}}
+use Rattle.chain.specs.SlotWords.{slot, holder}
 use Rattle.chain.proofs.Good.{good-up, serves-more}
 
 abbrev pub told : ℕ → ℕ → Chained

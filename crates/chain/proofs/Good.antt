@@ -1,17 +1,11 @@
 -- What is good within n links is good within more. Assumes nothing.
 use Prim.Native.Nat.{ℕ, zero, suc, _≤_}
-use mathlib.Core.Bool.{Bool, _&&_, _||_}
-use mathlib.Core.List.{List}
-use mathlib.Core.Logic.{_⊎_, inl, inr}
-use mathlib.Core.Path.{_≡_, subst}
+use mathlib.Core.{Bool.{Bool, _&&_, _||_}, List.List, Logic.{_⊎_, inl, inr}, Path.{_≡_, subst}}
 use native.Mathlib.Omega.{arith}
 use lib.Dec.{T, eqb, eqb→eq}
-use Rattle.records.specs.Phone.{Trust}
-use Rattle.records.specs.declared.Certificate.{Certificate}
-use Rattle.rules.specs.Words.{any}
-use Rattle.rules.specs.Chains.{trusted-root, link, serves, good}
-use Rattle.laws.proofs.Tests.{tests, or-cases, neqb→ne, by-test}
-use Rattle.laws.proofs.Lists.{any-out, any-in}
+use Rattle.records.specs.{Phone.Trust, declared.Certificate.Certificate}
+use Rattle.rules.specs.{Words.any, Chains.{trusted-root, link, serves, good}}
+use Rattle.laws.proofs.{Tests.{tests, or-cases, neqb→ne, by-test}, Lists.{any-out, any-in}}
 
 pub serves-more : (f g : Certificate → Bool) → ((c : Certificate) → T (f c) → T (g c)) → (d k : ℕ) (l : List Certificate)
     → T (any (serves f d k) l) → T (any (serves g d k) l)

@@ -1,30 +1,16 @@
 -- The search back from a key, level by level: the first level with a trusted root is the key's link count. Assumes nothing.
 use Prim.Native.Nat.{ℕ, zero, suc, _+_, _-_, _^_, _≤_, _<_}
-use mathlib.Core.Bool.{Bool, true, false, cond, not, _&&_, _||_, false≢true}
-use mathlib.Core.List.{List·Memᴰ}
-use mathlib.Core.Logic.{_≢_, _⊎_, inl, inr}
+use mathlib.Core.{Bool.{Bool, true, false, cond, not, _&&_, _||_, false≢true}, List.List·Memᴰ, Logic.{_≢_, _⊎_, inl, inr}}
 use mathlib.Core.Path.{_≡_, refl, sym, ap, ap₂, _∙_, subst}
 use borrow.Author.Tests.{ne-eqb}
 use native.Mathlib.Omega.{arith}
-use lib.Bits.{bitOr, or-zero-l, or-zero-r}
-use lib.Count.{trailingZeros}
-use lib.Dec.{T, eqb, eqb→eq}
-use lib.ListN.{length, drop}
-use lib.Pow.{pow-pos}
-use Rattle.records.specs.Phone.{Trust, no-certificate}
-use Rattle.records.specs.declared.Certificate.{Certificate}
-use Rattle.bits.specs.Bits.{set-bit}
-use Rattle.bits.specs.SlotWord.{word, any-of, less-lowest}
-use Rattle.bits.proofs.BitLaws.{or-set}
-use Rattle.bits.proofs.WordLaws.{any-nothing, word-lt, word-none, word-same, word-or, Built, built-none, built-skips, built-takes, built-all}
-use Rattle.rules.specs.Words.{any, least}
-use Rattle.rules.specs.Chains.{trusted-root, link, serves, good, most-links, within, links}
-use Rattle.laws.proofs.Tests.{tests, or-cases, eq→eqb, neqb→ne, same, eqb-turn}
-use Rattle.laws.proofs.Lists.{any-out, any-in}
-use Rattle.laws.proofs.Least.{least-small}
-use Rattle.laws.proofs.Loops.{any-rest, any-end}
-use Rattle.chain.specs.declared.search.Level.{Level}
-use Rattle.chain.specs.SlotWords.{slot, rooted, linked, reach, verifiers, Level-of}
+use lib.{Bits.{bitOr, or-zero-l, or-zero-r}, Count.trailingZeros, Dec.{T, eqb, eqb→eq}, ListN.{length, drop}, Pow.pow-pos}
+use Rattle.records.specs.{Phone.{Trust, no-certificate}, declared.Certificate.Certificate}
+use Rattle.bits.specs.{Bits.set-bit, SlotWord.{word, any-of, less-lowest}}
+use Rattle.bits.proofs.{BitLaws.or-set, WordLaws.{any-nothing, word-lt, word-none, word-same, word-or, Built, built-none, built-skips, built-takes, built-all}}
+use Rattle.rules.specs.{Words.{any, least}, Chains.{trusted-root, link, serves, good, most-links, within, links}}
+use Rattle.laws.proofs.{Tests.{tests, or-cases, eq→eqb, neqb→ne, same, eqb-turn}, Lists.{any-out, any-in}, Least.least-small, Loops.{any-rest, any-end}}
+use Rattle.chain.specs.{declared.search.Level.Level, SlotWords.{slot, rooted, linked, reach, verifiers, Level-of}}
 use Rattle.chain.proofs.WordsAny.{any-none, any-same, any-or, word-any, Going, goes-to, some-here}
 
 none : (b : Bool) → (b && false) ≡ false

@@ -1,20 +1,10 @@
 -- A certificate that is deleted or marked invalid leaves the chains of other domains alone: only its own has to be settled. Assumes nothing.
 use Prim.Native.Nat.{ℕ}
-use mathlib.Core.List.{List·Memᴰ, Memᴰ·map}
-use mathlib.Core.Logic.{_≢_}
-use mathlib.Core.Path.{_≡_, refl, sym, ap, subst, _∙_}
+use mathlib.Core.{List.{List·Memᴰ, Memᴰ·map}, Logic._≢_, Path.{_≡_, refl, sym, ap, subst, _∙_}}
 use lib.Dec.{T, eqb→eq}
-use Rattle.records.specs.Phone.{Trust, Phone, with-certificates}
-use Rattle.records.specs.declared.Certificate.{Certificate}
-use Rattle.rules.specs.Words.{at, change}
-use Rattle.rules.specs.Chains.{chains-to}
-use Rattle.rules.specs.Explicit.{Root, Issued}
-use Rattle.rules.specs.Codes.{has-id, certificate-named}
-use Rattle.rules.specs.Effects.{settle}
-use Rattle.laws.proofs.Accepted.{Accepted}
-use Rattle.laws.proofs.Changes.{at-cases}
-use Rattle.laws.proofs.Keys.{Key, by-root, by-issued}
-use Rattle.laws.proofs.Shortest.{chains-key, chains-signed, key-chains}
+use Rattle.records.specs.{Phone.{Trust, Phone, with-certificates}, declared.Certificate.Certificate}
+use Rattle.rules.specs.{Words.{at, change}, Chains.chains-to, Explicit.{Root, Issued}, Codes.{has-id, certificate-named}, Effects.settle}
+use Rattle.laws.proofs.{Accepted.Accepted, Changes.at-cases, Keys.{Key, by-root, by-issued}, Shortest.{chains-key, chains-signed, key-chains}}
 use Rattle.keeping.proofs.Naming.{certificate-named-alone}
 use Rattle.chain.specs.Settling.{settle-in}
 use Rattle.chain.proofs.SettledInTurn.{settle-own}

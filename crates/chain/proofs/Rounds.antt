@@ -1,26 +1,16 @@
 -- The good slots of a domain, round by round: only the slots that the last round added can make another one good. Assumes nothing.
 use Prim.Native.Nat.{ℕ, suc, _+_, _-_, _^_, _<_}
-use mathlib.Core.Bool.{Bool, true, false, not, _&&_, _||_, and-true}
-use mathlib.Core.Logic.{_≢_}
-use mathlib.Core.Path.{_≡_, refl, sym, ap, ap₂, _∙_, subst}
+use mathlib.Core.{Bool.{Bool, true, false, not, _&&_, _||_, and-true}, Logic._≢_, Path.{_≡_, refl, sym, ap, ap₂, _∙_, subst}}
 use native.Mathlib.Omega.{arith}
 use borrow.Author.Tests.{eq-eqb, ne-eqb}
-use lib.Bits.{bitOr, bitXor}
-use lib.Dec.{T, eqb, eqb→eq}
-use lib.ListN.{length}
-use lib.Pow.{pow-mono}
-use Rattle.records.specs.Phone.{Trust}
-use Rattle.records.specs.declared.Certificate.{Certificate}
-use Rattle.records.specs.declared.Executable.{Executable}
+use lib.{Bits.{bitOr, bitXor}, Dec.{T, eqb, eqb→eq}, ListN.length, Pow.pow-mono}
+use Rattle.records.specs.{Phone.Trust, declared.Certificate.Certificate, declared.Executable.Executable}
 use Rattle.bits.specs.SlotWord.{word, any-of, keep}
 use Rattle.bits.proofs.WordLaws.{any-nothing, keep-lt, keep-none, word-lt, word-none, word-same, word-or, word-less, keep-word}
-use Rattle.rules.specs.Words.{any}
-use Rattle.rules.specs.Chains.{trusted-root, link, serves, good, within, chains-to}
+use Rattle.rules.specs.{Words.any, Chains.{trusted-root, link, serves, good, within, chains-to}}
 use Rattle.chain.specs.declared.search.Sorted.{Sorted}
 use Rattle.chain.specs.SlotWords.{chained-in, within-domain, Sorted-as, new-after, left-after, verified-by, Round-of, good-slots}
-use Rattle.chain.proofs.Good.{good-more}
-use Rattle.chain.proofs.Sorting.{unrooted}
-use Rattle.chain.proofs.WordsAny.{any-none, any-same, any-or, word-any, Going}
+use Rattle.chain.proofs.{Good.good-more, Sorting.unrooted, WordsAny.{any-none, any-same, any-or, word-any, Going}}
 
 -- ---- the words of one domain
 

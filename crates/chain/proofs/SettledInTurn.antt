@@ -1,24 +1,15 @@
 -- Settling one domain after the other settles them all: an executable has one domain, and one that lost it has none. Assumes nothing.
 use Prim.Native.Nat.{ℕ, zero, suc, _+_, _≤_, _<_}
-use mathlib.Core.Bool.{Bool, true, false, cond, not, _||_}
-use mathlib.Core.Path.{_≡_, sym, ap, _∙_, refl, ap₂}
-use lib.Dec.{eqb, T, eqb→eq}
-use mathlib.Core.List.{List, [], _∷_, map, List·Memᴰ, List·Memᴰ·head, List·Memᴰ·tail}
-use mathlib.Core.Logic.{_≢_}
+use mathlib.Core.{Bool.{Bool, true, false, cond, not, _||_}, Path.{_≡_, sym, ap, _∙_, refl, ap₂}}
+use mathlib.Core.{List.{List, [], _∷_, map, List·Memᴰ, List·Memᴰ·head, List·Memᴰ·tail}, Logic._≢_}
+use lib.{Dec.{eqb, T, eqb→eq}, ListN.{length, length-map}}
 use native.Mathlib.Omega.{arith}
 use borrow.Author.Tests.{eq-eqb, ne-eqb}
-use lib.ListN.{length, length-map}
-use Rattle.records.specs.Phone.{Trust, in-domain, Phone, decode, encode, with-executables, executable-at, put-executable}
-use Rattle.records.specs.declared.Executable.{Executable}
-use Rattle.chain.specs.SlotWords.{chained-in}
-use Rattle.chain.specs.Settling.{settled-in, settle-in, Next-unchained, Domains-known}
+use Rattle.records.specs.{Phone.{Trust, in-domain, Phone, decode, encode, with-executables, executable-at, put-executable}, declared.Executable.Executable}
 use Rattle.records.specs.Frame.{Framed}
-use Rattle.rules.specs.Chains.{chains-to}
-use Rattle.rules.specs.Effects.{settled, settle}
-use Rattle.laws.proofs.Accepts.{T-true}
-use Rattle.laws.proofs.Tests.{neqb→ne, by-test}
-use Rattle.laws.proofs.Tables.{executables, says, framed-as}
-use Rattle.laws.proofs.SlotSweeps.{Sweeping, sweep-goes-on, sweep-skips-to}
+use Rattle.chain.specs.{SlotWords.chained-in, Settling.{settled-in, settle-in, Next-unchained, Domains-known}}
+use Rattle.rules.specs.{Chains.chains-to, Effects.{settled, settle}}
+use Rattle.laws.proofs.{Accepts.T-true, Tests.{neqb→ne, by-test}, Tables.{executables, says, framed-as}, SlotSweeps.{Sweeping, sweep-goes-on, sweep-skips-to}}
 
 -- an executable that does not chain loses its domain, and any other is not touched
 module _ (n : ℕ) (u : Trust) {x y : Executable} (q : x ≡ y) {b : Bool} (e : b ≡ chained-in n u x) where

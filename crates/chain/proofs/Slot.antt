@@ -1,17 +1,11 @@
 -- Whether one slot is good within n links: a trusted root, or a link whose verifying key has a link count within one less. Assumes nothing.
 use Prim.Native.Nat.{ℕ, zero, suc, _-_, _≤_}
-use mathlib.Core.Bool.{Bool, true, false, not, _&&_, _||_}
-use mathlib.Core.Logic.{_≢_}
-use mathlib.Core.Path.{_≡_, sym, ap, _∙_}
+use mathlib.Core.{Bool.{Bool, true, false, not, _&&_, _||_}, Logic._≢_, Path.{_≡_, sym, ap, _∙_}}
 use native.Mathlib.Omega.{arith}
 use lib.Dec.{T, eqb}
-use Rattle.records.specs.Phone.{Trust}
-use Rattle.records.specs.declared.Certificate.{Certificate}
-use Rattle.rules.specs.Words.{any, least}
-use Rattle.rules.specs.Chains.{trusted-root, link, serves, good}
-use Rattle.laws.proofs.Tests.{and-r, neqb→ne, ne→neqb, same}
-use Rattle.laws.proofs.Lists.{any-out}
-use Rattle.laws.proofs.Least.{least-small, least-passes, least-least}
+use Rattle.records.specs.{Phone.Trust, declared.Certificate.Certificate}
+use Rattle.rules.specs.{Words.{any, least}, Chains.{trusted-root, link, serves, good}}
+use Rattle.laws.proofs.{Tests.{and-r, neqb→ne, ne→neqb, same}, Lists.any-out, Least.{least-small, least-passes, least-least}}
 use Rattle.chain.specs.SlotWords.{reach}
 use Rattle.chain.proofs.Good.{serves-more, good-up}
 

@@ -1,14 +1,10 @@
 -- The sweep that finds the trusted roots and the links of a domain. Assumes nothing.
 use Prim.Native.Nat.{ℕ, _+_, _≤_, _<_}
-use mathlib.Core.Bool.{Bool, true, false, _&&_}
-use mathlib.Core.Logic.{_≢_}
-use mathlib.Core.Path.{_≡_, refl, sym, ap, ap₂, _∙_}
+use mathlib.Core.{Bool.{Bool, true, false, _&&_}, Logic._≢_, Path.{_≡_, refl, sym, ap, ap₂, _∙_}}
 use native.Mathlib.Omega.{arith}
 use borrow.Author.Tests.{eq-eqb, ne-eqb}
-use lib.Dec.{T, eqb, eqb→eq}
-use lib.ListN.{length}
-use Rattle.records.specs.Phone.{Seen, Trust, no-certificate}
-use Rattle.records.specs.declared.Certificate.{Certificate}
+use lib.{Dec.{T, eqb, eqb→eq}, ListN.length}
+use Rattle.records.specs.{Phone.{Seen, Trust, no-certificate}, declared.Certificate.Certificate}
 use Rattle.bits.specs.Bits.{set-bit}
 use Rattle.bits.proofs.WordLaws.{Built, built-none, built-skips, built-takes, built-all}
 use Rattle.rules.specs.Chains.{valid-root, trusted-root, link}

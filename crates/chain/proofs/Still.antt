@@ -1,28 +1,16 @@
 -- A change that no executable loses its chain by: what chained still chains, so that there is nothing to settle. Assumes nothing.
 use Prim.Native.Nat.{ℕ}
-use mathlib.Core.Bool.{false, not, _||_}
-use mathlib.Core.List.{List·Memᴰ, Memᴰ·map}
-use mathlib.Core.Logic.{_⊎_, inl, inr}
-use mathlib.Core.Path.{_≡_, refl, sym, ap, subst, _∙_}
+use mathlib.Core.{Bool.{false, not, _||_}, List.{List·Memᴰ, Memᴰ·map}, Logic.{_⊎_, inl, inr}, Path.{_≡_, refl, sym, ap, subst, _∙_}}
 use native.Mathlib.Omega.{arith}
 use lib.Dec.{T, eqb, eqb→eq}
-use Rattle.records.specs.Phone.{Phone, no-certificate, marked, enabling, with-clock, with-card, with-certificates}
-use Rattle.records.specs.declared.Certificate.{Certificate}
+use Rattle.records.specs.{Phone.{Phone, no-certificate, marked, enabling, with-clock, with-card, with-certificates}, declared.Certificate.Certificate}
 use Rattle.records.specs.declared.Event.{Event}
-use Rattle.rules.specs.Words.{any, at}
-use Rattle.rules.specs.Chains.{present, in-date, valid-root, trusted-root, link}
-use Rattle.rules.specs.ImageRules.{third-party-root}
-use Rattle.rules.specs.Forms.{new-certificate}
+use Rattle.rules.specs.{Words.{any, at}, Chains.{present, in-date, valid-root, trusted-root, link}, ImageRules.third-party-root, Forms.new-certificate}
 use Rattle.rules.specs.Codes.{certificate-named}
-use Rattle.rules.specs.Effects.{settle, retired, phone-operator-root, marked-operator, card-rule, on-a-card, after-marking}
-use Rattle.rules.specs.Effects.{install-certificate, mark-valid, enabled-by, message}
-use Rattle.laws.proofs.Accepted.{Occupied, Accepted}
-use Rattle.laws.proofs.Tests.{tests, or-cases, eq→eqb, by-test}
-use Rattle.laws.proofs.Lists.{none-out}
-use Rattle.laws.proofs.Changes.{at-cases}
-use Rattle.keeping.proofs.Order.{Fewer, fewer-chains}
-use Rattle.keeping.proofs.Narrowing.{Narrows, narrows-marked, narrows-refl, fewer-by, more-map}
-use Rattle.keeping.proofs.Narrowing.{more-filled, marking-widens}
+use Rattle.rules.specs.Effects.{settle, retired, phone-operator-root, marked-operator, card-rule, on-a-card, after-marking, install-certificate, mark-valid}
+use Rattle.rules.specs.Effects.{enabled-by, message}
+use Rattle.laws.proofs.{Accepted.{Occupied, Accepted}, Tests.{tests, or-cases, eq→eqb, by-test}, Lists.none-out, Changes.at-cases}
+use Rattle.keeping.proofs.{Order.{Fewer, fewer-chains}, Narrowing.{Narrows, narrows-marked, narrows-refl, fewer-by, more-map, more-filled, marking-widens}}
 use Rattle.keeping.proofs.Settle.{map-id, settle-still}
 use Rattle.chain.specs.Breaks.{disables, runs-out}
 

@@ -1,15 +1,9 @@
 -- Words and `any`: what the slots of a word tell, in the words of the rules. Assumes nothing.
 use Prim.Native.Nat.{ℕ, _+_, _-_, _*_, _/_, _%_, _^_, _≤_, _<_}
-use mathlib.Core.Bool.{Bool, true, false, cond, _&&_, _||_}
-use mathlib.Core.List.{List, [], _∷_}
-use mathlib.Core.Logic.{_≢_}
-use mathlib.Core.Path.{_≡_, refl, ap₂}
+use mathlib.Core.{Bool.{Bool, true, false, cond, _&&_, _||_}, List.{List, [], _∷_}, Logic._≢_, Path.{_≡_, refl, ap₂}}
 use native.Mathlib.Omega.{arith}
-use lib.Count.{trailingZeros}
-use lib.Dec.{eqb}
-use lib.ListN.{length}
-use Rattle.records.specs.Phone.{Trust, no-certificate}
-use Rattle.records.specs.declared.Certificate.{Certificate}
+use lib.{Count.trailingZeros, Dec.eqb, ListN.length}
+use Rattle.records.specs.{Phone.{Trust, no-certificate}, declared.Certificate.Certificate}
 use Rattle.bits.specs.SlotWord.{word, any-of, keep, less-lowest}
 use Rattle.bits.proofs.WordLaws.{falls, at-lowest, any-here, any-stops, any-goes-on, keep-skips, keep-takes}
 use Rattle.rules.specs.Words.{any}

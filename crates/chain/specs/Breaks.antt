@@ -2,11 +2,8 @@
 use Prim.Native.Nat.{ℕ}
 use mathlib.Core.Bool.{Bool, not, _&&_}
 use lib.Dec.{eqb}
-use Rattle.records.specs.declared.Certificate.{Certificate}
-use Rattle.records.specs.declared.Event.{Event}
-use Rattle.rules.specs.Chains.{in-date}
-use Rattle.rules.specs.ImageRules.{third-party-root}
-use Rattle.rules.specs.Effects.{enabled-by}
+use Rattle.records.specs.{declared.Certificate.Certificate, declared.Event.Event}
+use Rattle.rules.specs.{Chains.in-date, ImageRules.third-party-root, Effects.enabled-by}
 
 -- a record that is marked valid, as an issued one always is, in date at the clock, and no longer at t
 unfoldable pub runs-out : ℕ → ℕ → Certificate → Bool

@@ -1,11 +1,8 @@
 -- Settling, a domain at a time. Definitions only.
 use Prim.Native.Nat.{ℕ, _≤_, _<_}
-use mathlib.Core.Bool.{true, false, cond}
-use mathlib.Core.Path.{_≡_}
-use mathlib.Core.List.{map, List·Memᴰ}
+use mathlib.Core.{Bool.{true, false, cond}, Path._≡_, List.{map, List·Memᴰ}}
 use lib.ListN.{length}
-use Rattle.records.specs.Phone.{Trust, Phone, with-executables, in-domain, executable-at}
-use Rattle.records.specs.declared.Executable.{Executable}
+use Rattle.records.specs.{Phone.{Trust, Phone, with-executables, in-domain, executable-at}, declared.Executable.Executable}
 use Rattle.chain.specs.SlotWords.{chained-in}
 
 -- an executable with domain d that no longer chains to it

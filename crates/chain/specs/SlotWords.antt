@@ -1,19 +1,11 @@
 -- What the searches keep: slots as the bits of a word. Definitions only.
 use Prim.Native.Nat.{ℕ, suc, _+_}
-use mathlib.Core.Bool.{Bool, cond, not, _&&_, _||_}
-use mathlib.Core.Path.{_≡_}
-use lib.Bits.{bitOr}
-use lib.Dec.{eqb}
-use lib.ListN.{getD}
-use Rattle.records.specs.Phone.{Trust, no-certificate}
-use Rattle.records.specs.declared.Certificate.{Certificate}
-use Rattle.records.specs.declared.Executable.{Executable}
+use mathlib.Core.{Bool.{Bool, cond, not, _&&_, _||_}, Path._≡_}
+use lib.{Bits.bitOr, Dec.eqb, ListN.getD}
+use Rattle.records.specs.{Phone.{Trust, no-certificate}, declared.Certificate.Certificate, declared.Executable.Executable}
 use Rattle.bits.specs.SlotWord.{word, any-of}
-use Rattle.rules.specs.Words.{any, find}
-use Rattle.rules.specs.Chains.{trusted-root, link, good, chains-to}
-use Rattle.chain.specs.declared.GoodByDomain.{GoodByDomain}
-use Rattle.chain.specs.declared.search.Sorted.{Sorted}
-use Rattle.chain.specs.declared.search.Level.{Level}
+use Rattle.rules.specs.{Words.{any, find}, Chains.{trusted-root, link, good, chains-to}}
+use Rattle.chain.specs.{declared.GoodByDomain.GoodByDomain, declared.search.Sorted.Sorted, declared.search.Level.Level}
 
 abbrev pub slot : Trust → ℕ → Certificate
 slot t i = getD (t .certificates) i no-certificate

@@ -1,13 +1,9 @@
 -- What a date means for a root. Assumes nothing.
 use Prim.Native.Nat.{ℕ, _≤_}
-use mathlib.Core.Logic.{_↔_}
-use mathlib.Core.Path.{_≡_, refl}
+use mathlib.Core.{Logic._↔_, Path.{_≡_, refl}}
 use lib.Dec.{T, leb→le, le→leb}
-use Rattle.records.specs.Phone.{Trust, Phone}
-use Rattle.records.specs.declared.Certificate.{Certificate}
-use Rattle.records.specs.declared.Event.{Event}
-use Rattle.rules.specs.Chains.{in-date, valid-root, trusted-root}
-use Rattle.rules.specs.Effects.{tick, effect, settle, changed}
+use Rattle.records.specs.{Phone.{Trust, Phone}, declared.Certificate.Certificate, declared.Event.Event}
+use Rattle.rules.specs.{Chains.{in-date, valid-root, trusted-root}, Effects.{tick, effect, settle, changed}}
 use Rattle.laws.proofs.Tests.{tests}
 
 pub trusted-in-date : (t : Trust) (c : Certificate) → T (trusted-root (t .seen) c) → t .seen .clock ≤ c .expiry

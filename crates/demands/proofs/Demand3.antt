@@ -1,36 +1,18 @@
 -- Demand 3: withdrawing grants nothing that was refused, giving refuses nothing that was granted; both also with every executable verified. Assumes nothing.
 use Prim.Native.Nat.{ℕ}
-use mathlib.Core.Bool.{Bool, true, not, _||_}
-use mathlib.Core.List.{List, [], _∷_, map}
-use mathlib.Core.Logic.{_≢_, _⊎_, inl, inr}
-use mathlib.Core.Path.{_≡_, subst, sym, ap, _∙_}
+use mathlib.Core.{Bool.{Bool, true, not, _||_}, List.{List, [], _∷_, map}, Logic.{_≢_, _⊎_, inl, inr}, Path.{_≡_, subst, sym, ap, _∙_}}
 use borrow.Author.Tests.{eq-eqb, ne-eqb}
-use lib.Dec.{T, eqb, eqb→eq}
-use lib.ListN.{length}
-use Rattle.records.specs.Sizes.{event-size}
-use Rattle.records.specs.Layout.{event-bytes}
-use Rattle.records.specs.Phone.{Phone, decode, encode}
-use Rattle.records.specs.declared.Event.{Event}
+use lib.{Dec.{T, eqb, eqb→eq}, ListN.length}
+use Rattle.records.specs.{Sizes.event-size, Layout.event-bytes, Phone.{Phone, decode, encode}, declared.Event.Event}
 use Rattle.records.proofs.Records.{length-event, event-read-bytes}
-use Rattle.rules.specs.ImageRules.{accepted}
-use Rattle.rules.specs.Codes.{code-of}
-use Rattle.rules.specs.Step.{step, run}
-use Rattle.rules.specs.Demands.{request-event, verify-event, grants, withdrawing, giving}
-use Rattle.laws.proofs.Tests.{neqb→ne, or-cases, by-test}
-use Rattle.laws.proofs.Accepted.{Accepted}
-use Rattle.laws.proofs.Accepts.{accepted-out}
+use Rattle.rules.specs.{ImageRules.accepted, Codes.code-of, Step.{step, run}, Demands.{request-event, verify-event, grants, withdrawing, giving}}
+use Rattle.laws.proofs.{Tests.{neqb→ne, or-cases, by-test}, Accepted.Accepted, Accepts.accepted-out}
 use Rattle.keeping.specs.OneEvent.{event-of}
 use Rattle.demands.specs.Runs.{is-request, Each-in-turn, Withdrawing-run, Giving-run, verified as image-verified}
-use Rattle.keeping.proofs.After.{after, after-all}
-use Rattle.keeping.proofs.AcceptedKept.{accepted-after, accepted-after-all}
-use Rattle.keeping.proofs.Order.{Under, under-refl, under-trans}
-use Rattle.demands.proofs.Grant.{granted, no-more}
-use Rattle.keeping.proofs.Done.{refused-still}
-use Rattle.keeping.proofs.Settle.{request-still}
-use Rattle.demands.proofs.Withdrawing.{withdrawing-under}
-use Rattle.demands.proofs.Giving.{giving-over}
-use Rattle.keeping.proofs.Verified.{verified, accepted-verified, verified-twice, under-verified}
+use Rattle.keeping.proofs.{After.{after, after-all}, AcceptedKept.{accepted-after, accepted-after-all}, Order.{Under, under-refl, under-trans}}
+use Rattle.keeping.proofs.{Done.refused-still, Settle.request-still, Verified.{verified, accepted-verified, verified-twice, under-verified}}
 use Rattle.keeping.proofs.Bytes.{code-whole, accepted-step, decode-step, step-other, accepted-run, run-written, whole, decode-run, whole-bytes}
+use Rattle.demands.proofs.{Grant.{granted, no-more}, Withdrawing.withdrawing-under, Giving.giving-over}
 
 -- an event that passes the test at the phone that it meets, or is a request or refused there
 abbrev met : (Phone → Event → Bool) → Phone → Event → Bool

@@ -1,17 +1,10 @@
 -- The premises of demand 3 can be met, its two lists can take no kind more, and the exception in 02's item 7 is met: each computed. Assumes nothing.
 use Prim.Native.Nat.{ℕ}
-use mathlib.Core.Bool.{Bool, true, false, not, _&&_, _||_}
-use mathlib.Core.List.{List, [], _∷_, _++_}
-use mathlib.Core.Path.{_≡_, refl}
+use mathlib.Core.{Bool.{Bool, true, false, not, _&&_, _||_}, List.{List, [], _∷_, _++_}, Path.{_≡_, refl}}
 use lib.Dec.{eqb}
 use Rattle.octets.specs.Octets.{bytes}
 use Rattle.records.specs.Phone.{decode, certificate-at}
-use Rattle.rules.specs.Words.{all}
-use Rattle.rules.specs.ImageRules.{accepted}
-use Rattle.rules.specs.Codes.{code}
-use Rattle.rules.specs.Step.{step, run}
-use Rattle.rules.specs.Demands.{grants, withdrawing, giving}
-use Rattle.rules.specs.Computing.{computing}
+use Rattle.rules.specs.{Words.all, ImageRules.accepted, Codes.code, Step.{step, run}, Demands.{grants, withdrawing, giving}, Computing.computing}
 use Rattle.rules.specs.WorkedRun.{image}
 use Rattle.demands.specs.Runs.{Withdrawing-run, Giving-run, verified}
 use Rattle.keeping.specs.OneEvent.{event-of, phone-after}

@@ -1,36 +1,18 @@
 -- A giving event leaves a higher phone, where the phone before it is accepted. Assumes nothing.
 use Prim.Native.Nat.{ℕ}
-use mathlib.Core.Bool.{Bool, true, false, cond, _&&_, _||_}
-use mathlib.Core.List.{List, List·Memᴰ}
-use mathlib.Core.Logic.{_≢_, inl, inr}
-use mathlib.Core.Path.{_≡_, refl, subst, sym, _∙_}
+use mathlib.Core.{Bool.{Bool, true, false, cond, _&&_, _||_}, List.{List, List·Memᴰ}, Logic.{_≢_, inl, inr}, Path.{_≡_, refl, subst, sym, _∙_}}
 use lib.Dec.{T, eqb, lit<, eqb→eq}
 use Rattle.bits.specs.Bits.{digit, has-bit, set-bit}
 use Rattle.bits.proofs.BitLaws.{digit-same, digit-other}
-use Rattle.records.specs.Phone.{Seen, Phone, with-executables, enabling, in-domain, permitted}
-use Rattle.records.specs.declared.Certificate.{Certificate}
-use Rattle.records.specs.declared.Executable.{Executable}
-use Rattle.records.specs.declared.Event.{Event}
-use Rattle.rules.specs.Words.{any, at, change, fill}
-use Rattle.rules.specs.Chains.{chain-domain, chain-of}
-use Rattle.rules.specs.ImageRules.{free-executable, third-party-root}
-use Rattle.rules.specs.Forms.{with-kind, new-certificate, listed}
-use Rattle.rules.specs.Codes.{is-executable, certificate-named}
-use Rattle.rules.specs.Effects.{after-marking, enabled-by, effect}
+use Rattle.records.specs.{Phone.{Seen, Phone, with-executables, enabling, in-domain, permitted}, declared.Certificate.Certificate}
+use Rattle.records.specs.{declared.Executable.Executable, declared.Event.Event}
+use Rattle.rules.specs.{Words.{any, at, change, fill}, Chains.{chain-domain, chain-of}, ImageRules.{free-executable, third-party-root}}
+use Rattle.rules.specs.{Forms.{with-kind, new-certificate, listed}, Codes.{is-executable, certificate-named}, Effects.{after-marking, enabled-by, effect}}
 use Rattle.rules.specs.Demands.{giving}
-use Rattle.laws.proofs.Tests.{eq→eqb, neqb→ne, ne→neqb, by-test}
-use Rattle.laws.proofs.Lists.{fill-keeps}
-use Rattle.laws.proofs.Changes.{at-cases}
-use Rattle.laws.proofs.Accepted.{Accepted}
-use Rattle.keeping.proofs.ByKind.{the-effects, by-kind}
-use Rattle.keeping.proofs.After.{after}
-use Rattle.laws.proofs.Domain.{chain-domain-is}
-use Rattle.keeping.proofs.Unrefused.{Unrefused}
-use Rattle.keeping.proofs.Done.{after-cases}
-use Rattle.keeping.proofs.Order.{Below, Under, fewer-refl, below-refl, over-itself, under-refl}
-use Rattle.keeping.proofs.Naming.{small-domain}
-use Rattle.keeping.proofs.Narrowing.{more-filled, marking-widens, Narrows, narrows-marked, narrows-refl, more-map, under-trust, over-map}
-use Rattle.keeping.proofs.Settle.{over-settle}
+use Rattle.laws.proofs.{Tests.{eq→eqb, neqb→ne, ne→neqb, by-test}, Lists.fill-keeps, Changes.at-cases, Accepted.Accepted, Domain.chain-domain-is}
+use Rattle.keeping.proofs.{ByKind.{the-effects, by-kind}, After.after, Unrefused.Unrefused, Done.after-cases}
+use Rattle.keeping.proofs.{Order.{Below, Under, fewer-refl, below-refl, over-itself, under-refl}, Naming.small-domain}
+use Rattle.keeping.proofs.{Narrowing.{more-filled, marking-widens, Narrows, narrows-marked, narrows-refl, more-map, under-trust, over-map}, Settle.over-settle}
 
 -- ---- certificates
 

@@ -1,28 +1,15 @@
 -- A request answered 0 in the words of 01, and that a lower phone answers 0 to no request that the higher one refuses. Assumes nothing.
 use Prim.Native.Nat.{ℕ, _≤_}
-use mathlib.Core.Bool.{Bool, false, not, _||_}
-use mathlib.Core.List.{List·Memᴰ}
-use mathlib.Core.Logic.{_≢_, _⊎_, inl, inr, _↔_}
-use mathlib.Core.Path.{_≡_, subst, subst₂, sym, _∙_}
-use native.Mathlib.Omega.{arith}
-use native.Mathlib.Nat.{le-refl}
-use lib.Dec.{T, eqb, ltb, ltb→lt, lt→ltb, eqb→eq}
-use lib.ListN.{length, getD}
-use Rattle.records.specs.Layout.{row-byte}
-use Rattle.records.specs.Phone.{Phone, no-row, row-at}
-use Rattle.records.specs.declared.Executable.{Executable}
-use Rattle.rules.specs.Forms.{action-form}
-use Rattle.rules.specs.Codes.{executable-named, executable-known, table-byte, has-permission, code-of}
-use Rattle.rules.specs.Demands.{request-event}
-use Rattle.laws.proofs.Tests.{tests, by-test, nand, not-elim, not-intro, eq→eqb, neqb→ne}
-use Rattle.laws.proofs.TableRules.{row-at-small, row-at-least}
-use Rattle.laws.proofs.Accepted.{Accepted}
+use mathlib.Core.{Bool.{Bool, false, not, _||_}, List.List·Memᴰ, Logic.{_≢_, _⊎_, inl, inr, _↔_}, Path.{_≡_, subst, subst₂, sym, _∙_}}
+use native.{Mathlib.Omega.arith, Mathlib.Nat.le-refl}
+use lib.{Dec.{T, eqb, ltb, ltb→lt, lt→ltb, eqb→eq}, ListN.{length, getD}}
+use Rattle.records.specs.{Layout.row-byte, Phone.{Phone, no-row, row-at}, declared.Executable.Executable}
+use Rattle.rules.specs.{Forms.action-form, Codes.{executable-named, executable-known, table-byte, has-permission, code-of}, Demands.request-event}
+use Rattle.laws.proofs.{Tests.{tests, by-test, nand, not-elim, not-intro, eq→eqb, neqb→ne}, TableRules.{row-at-small, row-at-least}, Accepted.Accepted}
 use Rattle.laws.proofs.Shortest.{chains-signed, chains-chain}
 use Rattle.demands.specs.Runs.{Granted}
-use Rattle.keeping.proofs.Unrefused.{Unrefused, unrefused}
-use Rattle.keeping.proofs.Naming.{known-executable, the-executable, small-domain}
-use Rattle.keeping.proofs.Done.{the-tests, unrefused-done, nor-i, nand-i}
-use Rattle.keeping.proofs.Order.{Below, Over, Under}
+use Rattle.keeping.proofs.{Unrefused.{Unrefused, unrefused}, Naming.{known-executable, the-executable, small-domain}}
+use Rattle.keeping.proofs.{Done.{the-tests, unrefused-done, nor-i, nand-i}, Order.{Below, Over, Under}}
 
 -- the request of executable n for action a is granted
 abbrev pub granted : Phone → ℕ → ℕ → Bool

@@ -1,9 +1,6 @@
 -- A table of tests and numbers: the number given is that of a row that applies, and of those the lowest. Assumes nothing.
 use Prim.Native.Nat.{ℕ, _≤_}
-use mathlib.Core.Bool.{Bool, true, false, _&&_}
-use mathlib.Core.List.{List, [], _∷_}
-use mathlib.Core.Logic.{_≢_}
-use mathlib.Core.Path.{refl}
+use mathlib.Core.{Bool.{Bool, true, false, _&&_}, List.{List, [], _∷_}, Logic._≢_, Path.refl}
 use native.Mathlib.Omega.{arith}
 use lib.Dec.{T, leb, leb→le}
 use Rattle.rules.specs.Words.{Check, _⇒_, first}

@@ -1,33 +1,16 @@
 -- Who acts in events 6 to 8, and what of the certificates it touches. Assumes nothing.
 use Prim.Native.Nat.{ℕ, suc, _≤_, _<_}
-use mathlib.Core.Bool.{Bool, true, false, not, _&&_, _||_}
-use mathlib.Core.List.{List, [], _∷_, List·Memᴰ}
-use mathlib.Core.Logic.{_≢_, _⊎_, inl, inr}
-use mathlib.Core.Path.{_≡_, refl, sym, ap, _∙_, subst}
-use native.Mathlib.Omega.{arith}
-use native.Mathlib.Nat.{eq-or-lt-of-le}
+use mathlib.Core.{Bool.{Bool, true, false, not, _&&_, _||_}, List.{List, [], _∷_, List·Memᴰ}, Logic.{_≢_, _⊎_, inl, inr}, Path.{_≡_, refl, sym, ap, _∙_, subst}}
+use native.{Mathlib.Omega.arith, Mathlib.Nat.eq-or-lt-of-le}
 use borrow.Author.Tests.{ne-eqb}
-use lib.Dec.{T, eqb, eqb→eq, leb, leb→le, nleb→lt}
-use lib.ListN.{getD}
-use Rattle.records.specs.Phone.{Phone, no-certificate, certificate-at, marked}
-use Rattle.records.specs.declared.Certificate.{Certificate}
-use Rattle.records.specs.declared.Event.{Event}
-use Rattle.rules.specs.Words.{between}
-use Rattle.rules.specs.Actors.{may-act, somebody, acts-for}
-use Rattle.rules.specs.Chains.{present, in-date, valid-root}
-use Rattle.rules.specs.ImageRules.{operator-of, valid-in}
-use Rattle.rules.specs.Codes.{certificate-named, subject, recovery-named, id-unknown, actor-barred, card-away, code-of}
-use Rattle.rules.specs.Forms.{forms, no-form, with-kind}
-use Rattle.rules.specs.Effects.{phone-operator-root, on-a-card, changed}
-use Rattle.rules.specs.Step.{step}
-use Rattle.laws.proofs.Tests.{tests, and-l, and-r, or-cases, not-elim, nor-l}
-use Rattle.laws.proofs.Accepts.{T-true}
-use Rattle.laws.proofs.Accepted.{Occupied, Held, Kept}
-use Rattle.laws.proofs.Slots.{at-each}
-use Rattle.keeping.proofs.Unrefused.{Unrefused, unrefused, owned-formed}
-use Rattle.keeping.proofs.Naming.{certificate-named-is, certificate-named-alone}
-use Rattle.demands.specs.MayTouch.{Certificate-kept}
-use Rattle.demands.specs.Owners.{Owner-kept, As-owner, As-owners}
+use lib.{Dec.{T, eqb, eqb→eq, leb, leb→le, nleb→lt}, ListN.getD}
+use Rattle.records.specs.{Phone.{Phone, no-certificate, certificate-at, marked}, declared.Certificate.Certificate, declared.Event.Event}
+use Rattle.rules.specs.{Words.between, Actors.{may-act, somebody, acts-for}, Chains.{present, in-date, valid-root}, ImageRules.{operator-of, valid-in}}
+use Rattle.rules.specs.{Codes.{certificate-named, subject, recovery-named, id-unknown, actor-barred, card-away, code-of}, Forms.{forms, no-form, with-kind}}
+use Rattle.rules.specs.{Effects.{phone-operator-root, on-a-card, changed}, Step.step}
+use Rattle.laws.proofs.{Tests.{tests, and-l, and-r, or-cases, not-elim, nor-l}, Accepts.T-true, Accepted.{Occupied, Held, Kept}, Slots.at-each}
+use Rattle.keeping.proofs.{Unrefused.{Unrefused, unrefused, owned-formed}, Naming.{certificate-named-is, certificate-named-alone}}
+use Rattle.demands.specs.{MayTouch.Certificate-kept, Owners.{Owner-kept, As-owner, As-owners}}
 use Rattle.demands.proofs.TouchNoMore.{framed-changed}
 
 resolve : (a b : Bool) → T (not a || b) → T a → T b

@@ -1,26 +1,15 @@
 -- What the demands speak of is neither narrower nor wider than its words: a valid operator root is one, and what no kind may touch is kept. Assumes nothing.
 use Prim.Native.Nat.{ℕ, _≤_}
-use mathlib.Core.Bool.{Bool, not, _&&_, _||_}
-use mathlib.Core.List.{List, [], _∷_, _++_, map, List·Memᴰ, List·Memᴰ·head}
-use mathlib.Core.Logic.{_⊎_, inl, inr}
-use mathlib.Core.Path.{_≡_, refl, ap}
+use mathlib.Core.{Bool.{Bool, not, _&&_, _||_}, List.{List, [], _∷_, _++_, map, List·Memᴰ, List·Memᴰ·head}, Logic.{_⊎_, inl, inr}, Path.{_≡_, refl, ap}}
 use lib.Dec.{T, T-not, eqb, leb→le, le→leb}
 use Rattle.bits.specs.Bits.{set-bit, clear-bit}
 use Rattle.records.specs.Phone.{Seen, Trust, Phone, decode, no-certificate, no-executable, marked, enabling, in-domain, permitted}
-use Rattle.records.specs.declared.Certificate.{Certificate}
-use Rattle.records.specs.declared.Executable.{Executable}
-use Rattle.records.specs.declared.Event.{Event}
-use Rattle.rules.specs.Chains.{present, in-date, valid-root, chain-of}
-use Rattle.rules.specs.ImageRules.{valid-in, third-party-root}
-use Rattle.rules.specs.Forms.{new-certificate}
-use Rattle.rules.specs.Codes.{certificate-named}
-use Rattle.rules.specs.Effects.{phone-operator-root, on-a-card, enabled-by, new-executable, replaced}
-use Rattle.rules.specs.Computing.{computing}
+use Rattle.records.specs.{declared.Certificate.Certificate, declared.Executable.Executable, declared.Event.Event}
+use Rattle.rules.specs.{Chains.{present, in-date, valid-root, chain-of}, ImageRules.{valid-in, third-party-root}, Forms.new-certificate}
+use Rattle.rules.specs.{Codes.certificate-named, Effects.{phone-operator-root, on-a-card, enabled-by, new-executable, replaced}, Computing.computing}
 use Rattle.rules.specs.WorkedRun.{image}
-use Rattle.laws.proofs.Tests.{tests, eq→eqb, and-i, or-i, or-j}
-use Rattle.laws.proofs.Lists.{all-out}
-use Rattle.demands.specs.Runs.{Valid-operator}
-use Rattle.demands.specs.MayTouch.{Certificate-kept, Up-to-settling, Executable-kept}
+use Rattle.laws.proofs.{Tests.{tests, eq→eqb, and-i, or-i, or-j}, Lists.all-out}
+use Rattle.demands.specs.{Runs.Valid-operator, MayTouch.{Certificate-kept, Up-to-settling, Executable-kept}}
 
 -- ---- a valid operator root
 

@@ -1,28 +1,16 @@
 -- Recovery records: in no chain, and what a replace that is done says and does. Assumes nothing.
 use Prim.Native.Nat.{ℕ, zero, suc}
-use mathlib.Core.Bool.{Bool, true, false, not, _&&_, _||_}
-use mathlib.Core.List.{List, List·Memᴰ, List·Memᴰ·cases-cons, List·Memᴰ·eq-of-singleton}
-use mathlib.Core.Logic.{_≢_, _⊎_, inl, inr}
-use mathlib.Core.Path.{_≡_, refl, ap, sym, _∙_, subst}
+use mathlib.Core.{Bool.{Bool, true, false, not, _&&_, _||_}, List.{List, List·Memᴰ, List·Memᴰ·cases-cons, List·Memᴰ·eq-of-singleton}}
+use mathlib.Core.{Logic.{_≢_, _⊎_, inl, inr}, Path.{_≡_, refl, ap, sym, _∙_, subst}}
 use native.Mathlib.Omega.{arith}
 use borrow.Author.Tests.{ne-eqb, not-true}
-use lib.Dec.{T, not-T, eqb}
-use lib.ListN.{getD}
-use Rattle.records.specs.Phone.{Trust, Phone, no-certificate, certificate-at}
-use Rattle.records.specs.declared.Certificate.{Certificate}
-use Rattle.records.specs.declared.Event.{Event}
-use Rattle.rules.specs.Words.{at, any}
-use Rattle.rules.specs.Chains.{valid-root, trusted-root, link, serves, good}
-use Rattle.rules.specs.Explicit.{Chain, ends, goes-on}
-use Rattle.rules.specs.Forms.{with-kind, forms, no-form}
-use Rattle.rules.specs.Actors.{by-domain, may-act, acts-for}
+use lib.{Dec.{T, not-T, eqb}, ListN.getD}
+use Rattle.records.specs.{Phone.{Trust, Phone, no-certificate, certificate-at}, declared.Certificate.Certificate, declared.Event.Event}
+use Rattle.rules.specs.{Words.{at, any}, Chains.{valid-root, trusted-root, link, serves, good}, Explicit.{Chain, ends, goes-on}}
+use Rattle.rules.specs.{Forms.{with-kind, forms, no-form}, Actors.{by-domain, may-act, acts-for}}
 use Rattle.rules.specs.Codes.{has-id, certificate-named, recovery-named, subject, actor-barred, no-such-root, may-replace, cannot-replace, code-of}
-use Rattle.rules.specs.Effects.{replaced, replace, effect, settle, changed}
-use Rattle.laws.proofs.Tests.{tests, and-l, and-r, nor-l, or-cases, not-elim}
-use Rattle.rules.specs.Demands.{withdrawing, giving}
-use Rattle.laws.proofs.Changes.{map-at}
-use Rattle.laws.proofs.Accepts.{T-true}
-use Rattle.laws.proofs.Accepted.{Occupied, Accepted}
+use Rattle.rules.specs.{Effects.{replaced, replace, effect, settle, changed}, Demands.{withdrawing, giving}}
+use Rattle.laws.proofs.{Tests.{tests, and-l, and-r, nor-l, or-cases, not-elim}, Changes.map-at, Accepts.T-true, Accepted.{Occupied, Accepted}}
 use Rattle.keeping.proofs.Unrefused.{Unrefused, unrefused, replace-formed, replaceable}
 use Rattle.demands.specs.RecoveryKeys.{Recovery-fits, Replaces}
 

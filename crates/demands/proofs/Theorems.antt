@@ -5,48 +5,30 @@
 -- `key-named`, `phone-after` (keeping, specs/OneEvent); of a fault: `fault`, `fault-offset` (rules, specs/Faults), `Lowest-at`, `Wrong-field`
 -- (specs/Named).
 use Prim.Native.Nat.{ℕ, suc, _≤_, _<_}
-use mathlib.Core.Bool.{true, false}
-use mathlib.Core.List.{List, List·Memᴰ}
-use mathlib.Core.Logic.{_≢_, _⊎_, _↔_}
-use mathlib.Core.Path.{_≡_, ap, _∙_, subst}
+use mathlib.Core.{Bool.{true, false}, List.{List, List·Memᴰ}, Logic.{_≢_, _⊎_, _↔_}, Path.{_≡_, ap, _∙_, subst}}
 use native.Mathlib.Omega.{arith}
-use lib.Dec.{T}
-use lib.ListN.{length, getD}
-use Rattle.records.specs.Sizes.{header-size}
-use Rattle.records.specs.Layout.{certificate-read, card-read, executable-read, row-read}
-use Rattle.records.specs.Phone.{Trust, Phone, decode, encode, certificate-at, card-at, executable-at, row-at}
-use Rattle.records.specs.Frame.{framed}
-use Rattle.records.specs.declared.Certificate.{Certificate}
+use lib.{Dec.T, ListN.{length, getD}}
+use Rattle.records.specs.{Sizes.header-size, Layout.{certificate-read, card-read, executable-read, row-read}}
+use Rattle.records.specs.{Phone.{Trust, Phone, decode, encode, certificate-at, card-at, executable-at, row-at}, Frame.framed, declared.Certificate.Certificate}
 use Rattle.records.specs.declared.Event.{Event}
 use Rattle.records.proofs.RoundTrip.{decode-encode}
-use Rattle.rules.specs.declared.Site.{Site}
-use Rattle.rules.specs.Words.{at, all}
-use Rattle.rules.specs.Actors.{somebody}
-use Rattle.rules.specs.Chains.{valid-root, trusted-root, good, most-links}
+use Rattle.rules.specs.{declared.Site.Site, Words.{at, all}, Actors.somebody, Chains.{valid-root, trusted-root, good, most-links}}
 use Rattle.rules.specs.Explicit.{Chain, Chain-within, Shortest}
 use Rattle.rules.specs.ImageRules.{i2, i4, i5, row-fits, i7, i8, accepted, «open», cards-fit, present-known, places-known}
 use Rattle.rules.specs.Faults.{of-certificates, of-executables, at-rule, no-fault, fault, fault-offset}
 use Rattle.rules.specs.FaultNames.{rules, is-right, i1-fields, Wrong-field, Lowest-at, Wrong-card, Within}
-use Rattle.rules.specs.Codes.{has-id, makes-valid, certificate-named, executable-named, rows, code}
-use Rattle.rules.specs.Effects.{replaced, changed}
-use Rattle.rules.specs.Step.{refused-at, refusal, step, run}
-use Rattle.rules.specs.Demands.{grants, withdrawing, giving}
-use Rattle.laws.proofs.Tests.{eq→eqb}
-use Rattle.laws.proofs.Accepts.{accepted-out}
-use Rattle.laws.proofs.Shortest.{chain-chains}
+use Rattle.rules.specs.{Codes.{has-id, makes-valid, certificate-named, executable-named, rows, code}, Effects.{replaced, changed}}
+use Rattle.rules.specs.{Step.{refused-at, refusal, step, run}, Demands.{grants, withdrawing, giving}}
+use Rattle.laws.proofs.{Tests.eq→eqb, Accepts.accepted-out, Shortest.chain-chains}
 use Rattle.laws.proofs.Domain as Domain
 use Rattle.laws.proofs.Where as Where
-use Rattle.demands.specs.Runs.{Applies, Withdrawing-run, Giving-run, verified, Valid-operator, Granted}
+use Rattle.demands.specs.{Runs.{Applies, Withdrawing-run, Giving-run, verified, Valid-operator, Granted}, MayTouch.Framed-change}
+use Rattle.demands.specs.{RecoveryKeys.{Recovery-fits, Replaces}, Owners.{Owner-kept, As-owner, As-owners}}
 use Rattle.keeping.specs.OneEvent.{event-of, key-named, phone-after}
-use Rattle.demands.specs.MayTouch.{Framed-change}
-use Rattle.demands.specs.RecoveryKeys.{Recovery-fits, Replaces}
-use Rattle.demands.specs.Owners.{Owner-kept, As-owner, As-owners}
-use Rattle.demands.proofs.LowestRow.{first-applies, first-lowest}
+use Rattle.demands.proofs.{LowestRow.{first-applies, first-lowest}, TouchNoMore.framed-changed, Grant.granted-exact}
 use Rattle.keeping.proofs.Bytes
 use Rattle.keeping.proofs.EventAnswers
-use Rattle.demands.proofs.TouchNoMore.{framed-changed}
 use Rattle.keeping.proofs.AcceptedKept.{one-operator}
-use Rattle.demands.proofs.Grant.{granted-exact}
 use Rattle.demands.proofs.Demand3
 use Rattle.demands.proofs.Recovering
 use Rattle.demands.proofs.Dated

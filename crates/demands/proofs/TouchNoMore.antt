@@ -1,29 +1,17 @@
 -- What an event that is done may touch, kind by kind: all else is kept. Assumes nothing.
 use Prim.Native.Nat.{ℕ}
-use mathlib.Core.Bool.{Bool, true, false, cond, not, _&&_}
-use mathlib.Core.List.{List}
-use mathlib.Core.Logic.{_≢_, inl, inr}
-use mathlib.Core.Path.{_≡_, refl, ap}
-use lib.Dec.{T, T-not, eqb, eqb→eq}
-use lib.ListN.{getD, List·getD-map}
-use Rattle.records.specs.Phone.{Trust, Phone, no-certificate, no-executable, certificate-at, executable-at}
-use Rattle.records.specs.Phone.{with-certificates, with-executables, with-card, marked, in-domain}
-use Rattle.records.specs.declared.Certificate.{Certificate}
-use Rattle.records.specs.declared.Executable.{Executable}
-use Rattle.records.specs.declared.Event.{Event}
-use Rattle.rules.specs.Words.{between, at, change}
-use Rattle.rules.specs.ImageRules.{free-certificate, free-executable, third-party-root}
-use Rattle.rules.specs.Forms.{with-kind}
+use mathlib.Core.{Bool.{Bool, true, false, cond, not, _&&_}, List.List, Logic.{_≢_, inl, inr}, Path.{_≡_, refl, ap}}
+use lib.{Dec.{T, T-not, eqb, eqb→eq}, ListN.{getD, List·getD-map}}
+use Rattle.records.specs.Phone.{Trust, Phone, no-certificate, no-executable, certificate-at, executable-at, with-certificates, with-executables, with-card}
+use Rattle.records.specs.Phone.{marked, in-domain}
+use Rattle.records.specs.{declared.Certificate.Certificate, declared.Executable.Executable, declared.Event.Event}
+use Rattle.rules.specs.{Words.{between, at, change}, ImageRules.{free-certificate, free-executable, third-party-root}, Forms.with-kind}
 use Rattle.rules.specs.Codes.{has-id, is-executable, certificate-named, code-of}
-use Rattle.rules.specs.Effects.{phone-operator-root, retired, card-rule, card-in, card-out, power-up, on-a-card, after-marking, mark-valid}
-use Rattle.rules.specs.Effects.{replaced, effect, settled, settle, changed}
-use Rattle.laws.proofs.Tests.{tests}
-use Rattle.laws.proofs.Changes.{at-cases, map-at, change-at, fill-at}
+use Rattle.rules.specs.Effects.{phone-operator-root, retired, card-rule, card-in, card-out, power-up, on-a-card, after-marking, mark-valid, replaced, effect}
+use Rattle.rules.specs.Effects.{settled, settle, changed}
+use Rattle.laws.proofs.{Tests.tests, Changes.{at-cases, map-at, change-at, fill-at}}
 use Rattle.demands.specs.MayTouch.{Certificate-kept, Up-to-settling, Executable-kept, Framed-change}
-use Rattle.keeping.proofs.ByKind.{the-effects, by-kind}
-use Rattle.keeping.proofs.Unrefused.{unrefused}
-use Rattle.keeping.proofs.ExecutablesKept.{settled-cases}
-use Rattle.keeping.proofs.Shape.{shape-changed}
+use Rattle.keeping.proofs.{ByKind.{the-effects, by-kind}, Unrefused.unrefused, ExecutablesKept.settled-cases, Shape.shape-changed}
 
 -- ---- what an effect may touch, before settling
 

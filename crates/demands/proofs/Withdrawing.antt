@@ -1,34 +1,19 @@
 -- A withdrawing event leaves a lower phone. Assumes nothing.
 use Prim.Native.Nat.{ℕ}
-use mathlib.Core.Bool.{Bool, cond, _&&_, _||_}
-use mathlib.Core.Logic.{_≢_, inl, inr}
-use mathlib.Core.Path.{_≡_, refl, subst, sym, _∙_}
-use native.Mathlib.Omega.{arith}
-use native.Mathlib.Nat.{le-refl}
+use mathlib.Core.{Bool.{Bool, cond, _&&_, _||_}, Logic.{_≢_, inl, inr}, Path.{_≡_, refl, subst, sym, _∙_}}
+use native.{Mathlib.Omega.arith, Mathlib.Nat.le-refl}
 use lib.Dec.{T, eqb, nltb→le, lit<, eqb→eq}
 use Rattle.bits.specs.Bits.{digit, has-bit, clear-bit}
 use Rattle.bits.proofs.BitLaws.{digit-same, digit-other}
-use Rattle.records.specs.Phone.{Seen, Phone, no-certificate, no-executable, marked, enabling, permitted}
-use Rattle.records.specs.Phone.{with-seen, with-clock, with-card, with-certificates, with-executables}
-use Rattle.records.specs.declared.Certificate.{Certificate}
-use Rattle.records.specs.declared.Executable.{Executable}
-use Rattle.records.specs.declared.Event.{Event}
-use Rattle.rules.specs.Words.{any, at, change}
-use Rattle.rules.specs.ImageRules.{third-party-root}
-use Rattle.rules.specs.Forms.{with-kind, listed}
-use Rattle.rules.specs.Codes.{has-id, is-executable, time-back}
-use Rattle.rules.specs.Effects.{enabled-by, effect, settle}
-use Rattle.rules.specs.Demands.{withdrawing}
-use Rattle.laws.proofs.Tests.{eq→eqb, neqb→ne, by-test}
-use Rattle.laws.proofs.Changes.{at-cases}
-use Rattle.keeping.proofs.ByKind.{the-effects, by-withdrawing}
-use Rattle.keeping.proofs.After.{after}
-use Rattle.keeping.proofs.Unrefused.{Unrefused}
-use Rattle.keeping.proofs.Done.{after-cases}
-use Rattle.keeping.proofs.Order.{Fewer, Below, Under, below-refl, under-refl, under-trans}
-use Rattle.keeping.proofs.Unharmed.{Wider}
-use Rattle.keeping.proofs.Narrowing.{Narrows, narrows-marked, narrows-refl, narrows-free, fewer-map, fewer-seen, under-trust, under-map}
-use Rattle.keeping.proofs.Settle.{under-settle}
+use Rattle.records.specs.Phone.{Seen, Phone, no-certificate, no-executable, marked, enabling, permitted, with-seen, with-clock, with-card, with-certificates}
+use Rattle.records.specs.Phone.{with-executables}
+use Rattle.records.specs.{declared.Certificate.Certificate, declared.Executable.Executable, declared.Event.Event}
+use Rattle.rules.specs.{Words.{any, at, change}, ImageRules.third-party-root, Forms.{with-kind, listed}, Codes.{has-id, is-executable, time-back}}
+use Rattle.rules.specs.{Effects.{enabled-by, effect, settle}, Demands.withdrawing}
+use Rattle.laws.proofs.{Tests.{eq→eqb, neqb→ne, by-test}, Changes.at-cases}
+use Rattle.keeping.proofs.{ByKind.{the-effects, by-withdrawing}, After.after, Unrefused.Unrefused, Done.after-cases}
+use Rattle.keeping.proofs.{Order.{Fewer, Below, Under, below-refl, under-refl, under-trans}, Unharmed.Wider}
+use Rattle.keeping.proofs.{Narrowing.{Narrows, narrows-marked, narrows-refl, narrows-free, fewer-map, fewer-seen, under-trust, under-map}, Settle.under-settle}
 
 -- ---- certificates
 

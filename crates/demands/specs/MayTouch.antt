@@ -1,20 +1,11 @@
 -- What each kind of event may touch, said once for each: everything else is kept. Definitions only.
 use Prim.Native.Nat.{ℕ}
-use mathlib.Core.Bool.{not, _&&_, _||_}
-use mathlib.Core.Logic.{_≢_, _⊎_}
-use mathlib.Core.Path.{_≡_}
-use lib.Dec.{T, eqb}
-use lib.ListN.{length}
+use mathlib.Core.{Bool.{not, _&&_, _||_}, Logic.{_≢_, _⊎_}, Path._≡_}
+use lib.{Dec.{T, eqb}, ListN.length}
 use Rattle.bits.specs.Bits.{set-bit, clear-bit}
 use Rattle.records.specs.Phone.{Trust, Phone, no-certificate, no-executable, certificate-at, executable-at, marked, enabling, in-domain, permitted}
-use Rattle.records.specs.declared.Certificate.{Certificate}
-use Rattle.records.specs.declared.Executable.{Executable}
-use Rattle.records.specs.declared.Event.{Event}
-use Rattle.rules.specs.Words.{between}
-use Rattle.rules.specs.Chains.{chain-of}
-use Rattle.rules.specs.ImageRules.{third-party-root}
-use Rattle.rules.specs.Forms.{new-certificate}
-use Rattle.rules.specs.Codes.{certificate-named}
+use Rattle.records.specs.{declared.Certificate.Certificate, declared.Executable.Executable, declared.Event.Event}
+use Rattle.rules.specs.{Words.between, Chains.chain-of, ImageRules.third-party-root, Forms.new-certificate, Codes.certificate-named}
 use Rattle.rules.specs.Effects.{phone-operator-root, on-a-card, enabled-by, new-executable, replaced}
 
 -- a certificate slot before (c) and after (d) an event on this phone: kept, or changed as the kind changes it

@@ -1,15 +1,9 @@
 -- 02, item 7: what is said of an event by somebody in particular. Definitions only.
 use Prim.Native.Nat.{ℕ, _<_}
-use mathlib.Core.List.{List, [], _∷_}
-use mathlib.Core.Path.{_≡_}
+use mathlib.Core.{List.{List, [], _∷_}, Path._≡_}
 use lib.Dec.{T}
-use Rattle.records.specs.Phone.{decode, marked}
-use Rattle.records.specs.declared.Certificate.{Certificate}
-use Rattle.records.specs.declared.Event.{Event}
-use Rattle.rules.specs.Actors.{somebody}
-use Rattle.rules.specs.Codes.{certificate-named, code}
-use Rattle.rules.specs.Effects.{phone-operator-root}
-use Rattle.rules.specs.Step.{step}
+use Rattle.records.specs.{Phone.{decode, marked}, declared.Certificate.Certificate, declared.Event.Event}
+use Rattle.rules.specs.{Actors.somebody, Codes.{certificate-named, code}, Effects.phone-operator-root, Step.step}
 use Rattle.keeping.specs.OneEvent.{event-of}
 
 -- a certificate slot before (c) and after (d) an event at this time: kept, or of the owner who acts

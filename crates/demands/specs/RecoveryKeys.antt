@@ -1,9 +1,7 @@
 -- 02, item 4: what is said of recovery records and of a replace that is done. Definitions only.
 use Prim.Native.Nat.{_≤_}
-use mathlib.Core.Logic.{_⊎_}
-use mathlib.Core.Path.{_≡_}
-use Rattle.records.specs.declared.Certificate.{Certificate}
-use Rattle.records.specs.declared.Event.{Event}
+use mathlib.Core.{Logic._⊎_, Path._≡_}
+use Rattle.records.specs.{declared.Certificate.Certificate, declared.Event.Event}
 
 -- "phone only, domain 1 or 2, verifying key 0, mark 0, enabled 1"
 pub record Recovery-fits (c : Certificate) : Type 0 where

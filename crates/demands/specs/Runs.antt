@@ -1,22 +1,10 @@
 -- What the demands say of runs of events, over the bytes of an image and of the events. Definitions only.
 use Prim.Native.Nat.{ℕ, _<_}
-use mathlib.Core.Bool.{Bool, not, _||_}
-use mathlib.Core.List.{List, [], _∷_, map, List·Memᴰ}
-use mathlib.Core.Logic.{_≢_, _⊎_}
-use mathlib.Core.Path.{_≡_}
-use lib.Dec.{T, eqb}
-use lib.ListN.{length}
-use Rattle.records.specs.Layout.{row-byte, event-bytes}
-use Rattle.records.specs.Phone.{Phone, row-at, decode}
-use Rattle.records.specs.declared.Certificate.{Certificate}
-use Rattle.records.specs.declared.Event.{Event}
-use Rattle.rules.specs.Words.{Check, _⇒_}
-use Rattle.rules.specs.Chains.{present, most-links}
-use Rattle.rules.specs.Explicit.{Chain-within}
-use Rattle.rules.specs.ImageRules.{valid-in}
-use Rattle.rules.specs.Codes.{executable-named, executable-known, has-permission, code}
-use Rattle.rules.specs.Step.{step, run}
-use Rattle.rules.specs.Demands.{withdrawing, giving, verify-event}
+use mathlib.Core.{Bool.{Bool, not, _||_}, List.{List, [], _∷_, map, List·Memᴰ}, Logic.{_≢_, _⊎_}, Path._≡_}
+use lib.{Dec.{T, eqb}, ListN.length}
+use Rattle.records.specs.{Layout.{row-byte, event-bytes}, Phone.{Phone, row-at, decode}, declared.Certificate.Certificate, declared.Event.Event}
+use Rattle.rules.specs.{Words.{Check, _⇒_}, Chains.{present, most-links}, Explicit.Chain-within, ImageRules.valid-in}
+use Rattle.rules.specs.{Codes.{executable-named, executable-known, has-permission, code}, Step.{step, run}, Demands.{withdrawing, giving, verify-event}}
 use Rattle.keeping.specs.OneEvent.{event-of}
 
 -- a row of the table of codes with this number applies

@@ -1,20 +1,11 @@
 -- The rows of the table of codes that matter for the clock and the card. Assumes nothing.
 use Prim.Native.Nat.{ℕ, _<_}
-use mathlib.Core.Bool.{true, false, not, _&&_, and-true, or-false}
-use mathlib.Core.List.{List, [], _∷_}
-use mathlib.Core.Logic.{_≢_}
-use mathlib.Core.Path.{_≡_, sym, ap, _∙_}
+use mathlib.Core.{Bool.{true, false, not, _&&_, and-true, or-false}, List.{List, [], _∷_}, Logic._≢_, Path.{_≡_, sym, ap, _∙_}}
 use borrow.Author.Tests.{eq-eqb, ne-eqb}
 use lib.Dec.{eqb, ltb}
-use Rattle.records.specs.Phone.{Phone}
-use Rattle.records.specs.declared.Event.{Event}
-use Rattle.rules.specs.Words.{Check, _⇒_}
-use Rattle.rules.specs.ImageRules.{known-place}
-use Rattle.rules.specs.Actors.{may-act}
-use Rattle.rules.specs.Forms.{with-kind, clock-form, card-form}
-use Rattle.rules.specs.Codes.{code-of}
-use Rattle.handling.proofs.CodeRows.{Gives, gives}
-use Rattle.handling.proofs.TheTable.{the-table, small-actor}
+use Rattle.records.specs.{Phone.Phone, declared.Event.Event}
+use Rattle.rules.specs.{Words.{Check, _⇒_}, ImageRules.known-place, Actors.may-act, Forms.{with-kind, clock-form, card-form}, Codes.code-of}
+use Rattle.handling.proofs.{CodeRows.{Gives, gives}, TheTable.{the-table, small-actor}}
 
 abbrev pub clock-rows : Phone → Event → List Check
 clock-rows p e =

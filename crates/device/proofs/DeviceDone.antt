@@ -1,22 +1,12 @@
 -- An event of the clock or the card that is done: what settling asks for after its effect, and that what it leaves is what the rules say.
 -- Assumes nothing.
 use Prim.Native.Nat.{ℕ}
-use mathlib.Core.Bool.{Bool, true, false, not, true≢false}
-use mathlib.Core.List.{List}
-use mathlib.Core.Path.{_≡_, refl, sym, ap, subst, _∙_}
+use mathlib.Core.{Bool.{Bool, true, false, not, true≢false}, List.List, Path.{_≡_, refl, sym, ap, subst, _∙_}}
 use lib.Dec.{T}
-use Rattle.records.specs.Phone.{with-card, decode, encode}
-use Rattle.records.specs.Frame.{Framed}
-use Rattle.records.specs.declared.Event.{Event}
-use Rattle.rules.specs.declared.Answer.{Answer}
-use Rattle.rules.specs.Words.{any}
-use Rattle.rules.specs.AcceptedImage.{Accepted-image}
-use Rattle.rules.specs.Forms.{with-kind}
-use Rattle.rules.specs.Codes.{code-of}
-use Rattle.rules.specs.Effects.{marked-operator, effect, changed, settle, tick, card-rule, card-in, card-out, power-up}
-use Rattle.rules.specs.Step.{answer-done, done}
-use Rattle.chain.specs.Breaks.{runs-out}
-use Rattle.chain.specs.Settling.{Domains-known}
+use Rattle.records.specs.{Phone.{with-card, decode, encode}, Frame.Framed, declared.Event.Event}
+use Rattle.rules.specs.{declared.Answer.Answer, Words.any, AcceptedImage.Accepted-image, Forms.with-kind, Codes.code-of}
+use Rattle.rules.specs.{Effects.{marked-operator, effect, changed, settle, tick, card-rule, card-in, card-out, power-up}, Step.{answer-done, done}}
+use Rattle.chain.specs.{Breaks.runs-out, Settling.Domains-known}
 use Rattle.handling.specs.Handled.{Handled, Settled}
 use Rattle.handling.proofs.Handles.{handled-still, handled-settled, settle-framed, settle-known, said-still, accepted-phone}
 use Rattle.device.proofs.TimeAndCard.{tick-still, card-idle, card-still, power-up-programs}

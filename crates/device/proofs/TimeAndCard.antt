@@ -1,15 +1,10 @@
 -- When the clock or the card leaves nothing to settle, and that neither touches the executables. Assumes nothing.
-use mathlib.Core.Bool.{Bool, true, false, cond, not, _||_}
-use mathlib.Core.Path.{_≡_, refl, sym, ap, _∙_}
+use mathlib.Core.{Bool.{Bool, true, false, cond, not, _||_}, Path.{_≡_, refl, sym, ap, _∙_}}
 use lib.Dec.{T, eqb, eqb→eq}
-use Rattle.records.specs.Phone.{Phone, with-card}
-use Rattle.records.specs.declared.Event.{Event}
-use Rattle.rules.specs.Words.{any}
-use Rattle.rules.specs.Forms.{with-kind}
-use Rattle.rules.specs.Codes.{code-of, card-wrong}
+use Rattle.records.specs.{Phone.{Phone, with-card}, declared.Event.Event}
+use Rattle.rules.specs.{Words.any, Forms.with-kind, Codes.{code-of, card-wrong}}
 use Rattle.rules.specs.Effects.{marked-operator, effect, changed, settle, card-rule, card-in, tick, power-up, card-out}
-use Rattle.laws.proofs.Accepted.{Accepted}
-use Rattle.laws.proofs.Tests.{eq→eqb}
+use Rattle.laws.proofs.{Accepted.Accepted, Tests.eq→eqb}
 use Rattle.keeping.proofs.Unrefused.{unrefused}
 use Rattle.chain.specs.Breaks.{runs-out}
 use Rattle.chain.proofs.Still.{later-still, rule-idle, come-still}

@@ -1,21 +1,14 @@
 -- The text of the answers: what is written of one, and line behind line. Assumes nothing.
 use Prim.Native.Nat.{ℕ, _+_, _-_, _/_, _%_, _≤_, _<_}
-use mathlib.Core.Bool.{Bool, true, false, cond}
-use mathlib.Core.List.{List, [], _++_, append-nil}
-use mathlib.Core.Logic.{_≢_}
-use mathlib.Core.Path.{_≡_, refl, sym, ap, ap₂, _∙_}
-use native.Mathlib.Nat.{zero-add}
-use native.Mathlib.Numerals.{add-one}
-use native.Mathlib.Omega.{arith}
+use mathlib.Core.{Bool.{Bool, true, false, cond}, List.{List, [], _++_, append-nil}, Logic._≢_, Path.{_≡_, refl, sym, ap, ap₂, _∙_}}
+use native.{Mathlib.Nat.zero-add, Mathlib.Numerals.add-one, Mathlib.Omega.arith}
 use borrow.Author.Tests.{eq-eqb, ne-eqb, le-leb, lt-leb}
-use lib.Dec.{eqb}
-use lib.ListN.{length, getD, take, drop, length-append, length-drop, take-append-drop, drop-of-length-le}
+use lib.{Dec.eqb, ListN.{length, getD, take, drop, length-append, length-drop, take-append-drop, drop-of-length-le}}
 use lib.Seq.{length-take-le, take-all, take-append-seam, drop-cons}
 use Rattle.octets.specs.Octets.{put}
 use Rattle.rules.specs.declared.Answer.{Answer}
 use Rattle.records.proofs.Puts.{put-right}
-use Rattle.stream.specs.PrintedLines.{line, longest-line, heading}
-use Rattle.stream.specs.Refusal.{image-refused}
+use Rattle.stream.specs.{PrintedLines.{line, longest-line, heading}, Refusal.image-refused}
 use Rattle.stream.proofs.JoinedTexts.{Put, then, line-small, refusal-small}
 use Rattle.differences.specs.WrittenAnswers.{answer-of, told-line, opened-line, kind-at, text-room, lines-behind, written}
 

@@ -1,13 +1,8 @@
 -- What comparing byte by byte makes of two texts. Assumes nothing.
 use Prim.Native.Nat.{ℕ, _+_, _≤_, _<_}
-use mathlib.Core.Bool.{Bool, true, false, true≢false, false≢true}
-use mathlib.Core.List.{List, [], _∷_, _++_}
-use mathlib.Core.Logic.{_≢_}
-use mathlib.Core.Path.{_≡_, refl, sym, ap, _∙_, subst}
-use native.Mathlib.Numerals.{add-one}
-use native.Mathlib.Omega.{arith}
-use lib.ListN.{length, getD, take}
-use lib.Seq.{take-suc, take-all}
+use mathlib.Core.{Bool.{Bool, true, false, true≢false, false≢true}, List.{List, [], _∷_, _++_}, Logic._≢_, Path.{_≡_, refl, sym, ap, _∙_, subst}}
+use native.{Mathlib.Numerals.add-one, Mathlib.Omega.arith}
+use lib.{ListN.{length, getD, take}, Seq.{take-suc, take-all}}
 use Rattle.differences.specs.Compared.{First-difference, Differ}
 
 -- the first n bytes are the same

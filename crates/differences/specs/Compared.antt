@@ -1,9 +1,6 @@
 -- What it is to compare two texts: where they begin to differ, and whether they do. Definitions only.
 use Prim.Native.Nat.{ℕ, _≤_, _<_}
-use mathlib.Core.Bool.{Bool, true, false}
-use mathlib.Core.List.{List}
-use mathlib.Core.Logic.{_≢_}
-use mathlib.Core.Path.{_≡_}
+use mathlib.Core.{Bool.{Bool, true, false}, List.List, Logic._≢_, Path._≡_}
 use lib.ListN.{length, getD, take}
 
 -- before byte n the two are the same, and at n they differ or one ends

@@ -1,16 +1,11 @@
 -- What `bench` would write of the answers of a case, each told as one number. Definitions, and a text computed by them. Assumes nothing.
 use Prim.Native.Nat.{ℕ, _+_, _*_, _/_, _%_}
-use mathlib.Core.Bool.{cond}
-use mathlib.Core.List.{List, [], _∷_, _++_}
-use mathlib.Core.Path.{_≡_, refl}
-use lib.Dec.{eqb, leb}
-use lib.ListN.{length, getD}
+use mathlib.Core.{Bool.cond, List.{List, [], _∷_, _++_}, Path.{_≡_, refl}}
+use lib.{Dec.{eqb, leb}, ListN.{length, getD}}
 use Rattle.octets.specs.Octets.{bytes}
 use Rattle.records.specs.Sizes.{event-size}
 use Rattle.rules.specs.declared.Answer.{Answer}
-use Rattle.stream.specs.Decimal.{places-within, decimal}
-use Rattle.stream.specs.PrintedLines.{line, longest-line, heading}
-use Rattle.stream.specs.Refusal.{image-refused}
+use Rattle.stream.specs.{Decimal.{places-within, decimal}, PrintedLines.{line, longest-line, heading}, Refusal.image-refused}
 
 -- ---- an answer
 

@@ -1,32 +1,17 @@
 -- From the handlers to one step: the kind and the actor of an event, its length, and the image it meets. Assumes nothing.
 use Prim.Native.Nat.{ℕ, zero, suc, _≤_, _<_}
-use mathlib.Core.Bool.{Bool, true, false, cond, not, _&&_}
-use mathlib.Core.List.{List, [], _∷_}
-use mathlib.Core.Logic.{_≢_}
-use mathlib.Core.Path.{_≡_, refl, sym, ap, _∙_, subst}
+use mathlib.Core.{Bool.{Bool, true, false, cond, not, _&&_}, List.{List, [], _∷_}, Logic._≢_, Path.{_≡_, refl, sym, ap, _∙_, subst}}
 use native.Mathlib.Omega.{arith}
 use borrow.Author.Tests.{ne-eqb, lt-leb}
-use lib.Dec.{eqb, leb}
-use lib.ListN.{length, getD, List·getD-eq-default}
+use lib.{Dec.{eqb, leb}, ListN.{length, getD, List·getD-eq-default}}
 use Rattle.octets.proofs.ByteLaws.{Bytes}
-use Rattle.records.specs.Sizes.{event-size}
-use Rattle.records.specs.Layout.{event-read}
-use Rattle.records.specs.Phone.{Phone, decode, encode}
-use Rattle.records.specs.declared.Event.{Event}
+use Rattle.records.specs.{Sizes.event-size, Layout.event-read, Phone.{Phone, decode, encode}, declared.Event.Event}
 use Rattle.records.proofs.RoundTrip.{frame}
-use Rattle.rules.specs.declared.Answer.{Answer}
-use Rattle.rules.specs.Words.{first}
-use Rattle.rules.specs.declared.Fault.{Fault}
-use Rattle.rules.specs.ImageRules.{broken, accepted}
-use Rattle.rules.specs.Faults.{fault}
-use Rattle.rules.specs.Forms.{with-kind, forms, no-form, malformed}
-use Rattle.rules.specs.Codes.{code-of, code}
-use Rattle.rules.specs.Effects.{changed}
-use Rattle.rules.specs.Step.{Outcome, refused, refused-at, refusal, done, step}
-use Rattle.laws.proofs.Accepts.{accepted-out}
+use Rattle.rules.specs.{declared.Answer.Answer, Words.first, declared.Fault.Fault, ImageRules.{broken, accepted}, Faults.fault}
+use Rattle.rules.specs.{Forms.{with-kind, forms, no-form, malformed}, Codes.{code-of, code}, Effects.changed}
+use Rattle.rules.specs.{Step.{Outcome, refused, refused-at, refusal, done, step}, AcceptedImage.Accepted-image}
+use Rattle.laws.proofs.{Accepts.accepted-out, Promise.accepted-image}
 use Rattle.keeping.proofs.Bytes.{code-whole, step-refused, accepted-step, refusal-cases, never-one}
-use Rattle.rules.specs.AcceptedImage.{Accepted-image}
-use Rattle.laws.proofs.Promise.{accepted-image}
 use Rattle.events.specs.Stepped.{Stepped, Stepped-accepted}
 use Rattle.handling.specs.Handled.{told, left, Handled}
 use Rattle.handling.proofs.Handles.{handled-refused}

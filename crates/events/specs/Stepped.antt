@@ -1,10 +1,7 @@
 -- What one step promises. Definitions only.
 use Prim.Native.Nat.{ℕ}
-use mathlib.Core.List.{List}
-use mathlib.Core.Path.{_≡_}
-use Rattle.rules.specs.declared.Answer.{Answer}
-use Rattle.rules.specs.Step.{step}
-use Rattle.rules.specs.AcceptedImage.{Accepted-image}
+use mathlib.Core.{List.List, Path._≡_}
+use Rattle.rules.specs.{declared.Answer.Answer, Step.step, AcceptedImage.Accepted-image}
 
 -- any bytes of an image and of an event: the answer and the image of the rules
 pub record Stepped (l v : List ℕ) (r : Answer) (l′ : List ℕ) : Type 0 where

@@ -1,24 +1,15 @@
 -- From the rows of an event on the executable that it names to its plan, and from the plan to what is done. Assumes nothing.
 use Prim.Native.Nat.{ℕ, _<_}
-use mathlib.Core.Bool.{Bool, true, false, not}
-use mathlib.Core.List.{List, [], _∷_}
-use mathlib.Core.Path.{_≡_, refl, sym, subst}
+use mathlib.Core.{Bool.{Bool, true, false, not}, List.{List, [], _∷_}, Path.{_≡_, refl, sym, subst}}
 use native.Mathlib.Omega.{arith}
-use lib.Dec.{T, eqb}
-use lib.ListN.{length}
-use Rattle.records.specs.Phone.{Phone, decode}
-use Rattle.records.specs.declared.Event.{Event}
-use Rattle.rules.specs.Words.{between, _⇒_, first, first-place}
-use Rattle.rules.specs.Actors.{may-act}
-use Rattle.rules.specs.AcceptedImage.{Accepted-image}
-use Rattle.rules.specs.Forms.{with-kind}
+use lib.{Dec.{T, eqb}, ListN.length}
+use Rattle.records.specs.{Phone.{Phone, decode}, declared.Event.Event}
+use Rattle.rules.specs.{Words.{between, _⇒_, first, first-place}, Actors.may-act, AcceptedImage.Accepted-image, Forms.with-kind}
 use Rattle.rules.specs.Codes.{is-executable, executable-known, code-of}
-use Rattle.handling.specs.declared.Plan.{Plan}
-use Rattle.handling.specs.Plans.{plan, on-executable, for-executable, executable-rows}
+use Rattle.handling.specs.{declared.Plan.Plan, Plans.{plan, on-executable, for-executable, executable-rows}}
 use Rattle.executables.specs.Acting.{acting}
 use Rattle.lookup.proofs.FirstWithin.{first-within}
-use Rattle.handling.proofs.PlanLaws.{on-code, on-slot}
-use Rattle.handling.proofs.PlanLaws.{executable-within, free-executable-within}
+use Rattle.handling.proofs.PlanLaws.{on-code, on-slot, executable-within, free-executable-within}
 
 -- where the rows of an executable say nothing it is known, and its slot is a slot
 pub known-within : (k : ℕ) (p : Phone) (e : Event) {r : Plan} → r ≡ acting k p e → {i : ℕ} → r ≡ Plan.On i → i < length (p .executables)

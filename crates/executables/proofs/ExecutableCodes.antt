@@ -1,20 +1,12 @@
 -- The rows of the table of codes that matter for events about executables. Assumes nothing.
 use Prim.Native.Nat.{ℕ, _<_}
-use mathlib.Core.Bool.{Bool, true, false, not, and-true, or-false}
-use mathlib.Core.List.{List, [], _∷_, _++_}
-use mathlib.Core.Path.{_≡_, ap, _∙_}
-use Rattle.records.specs.Phone.{Phone}
-use Rattle.records.specs.declared.Executable.{Executable}
-use Rattle.records.specs.declared.Event.{Event}
-use Rattle.rules.specs.Words.{any, Check, _⇒_, first}
-use Rattle.rules.specs.Actors.{may-act}
-use Rattle.rules.specs.Forms.{with-kind, id-form, executable-form, action-form}
+use mathlib.Core.{Bool.{Bool, true, false, not, and-true, or-false}, List.{List, [], _∷_, _++_}, Path.{_≡_, ap, _∙_}}
+use Rattle.records.specs.{Phone.Phone, declared.Executable.Executable, declared.Event.Event}
+use Rattle.rules.specs.{Words.{any, Check, _⇒_, first}, Actors.may-act, Forms.{with-kind, id-form, executable-form, action-form}}
 use Rattle.rules.specs.Codes.{is-executable, executable-named, executable-known, code-of}
 use Rattle.handling.specs.Plans.{executable-rows}
-use Rattle.handling.proofs.CodeRows.{Gives, gives}
-use Rattle.handling.proofs.TheTable.{the-table, small-actor}
-use Rattle.executables.specs.TableRows.{table-rows}
-use Rattle.executables.specs.Acting.{permission-kind}
+use Rattle.handling.proofs.{CodeRows.{Gives, gives}, TheTable.{the-table, small-actor}}
+use Rattle.executables.specs.{TableRows.table-rows, Acting.permission-kind}
 
 abbrev pub install-executable-rows : Phone → Event → List Check
 install-executable-rows p e =

@@ -1,15 +1,10 @@
 -- What the room for one more executable tells of an install: its code, and the slot that is filled. Assumes nothing.
 use Prim.Native.Nat.{ℕ}
-use mathlib.Core.Bool.{Bool, true, false, cond, not}
-use mathlib.Core.List.{List, [], _∷_}
-use mathlib.Core.Path.{_≡_, refl, sym, ap, _∙_}
+use mathlib.Core.{Bool.{Bool, true, false, cond, not}, List.{List, [], _∷_}, Path.{_≡_, refl, sym, ap, _∙_}}
 use native.Mathlib.Omega.{arith}
 use Rattle.records.specs.declared.Executable.{Executable}
-use Rattle.rules.specs.Words.{any, _⇒_, first, first-place}
-use Rattle.rules.specs.Codes.{is-executable}
-use Rattle.lookup.specs.declared.Room.{Room}
-use Rattle.lookup.specs.declared.Room.the-variants.{Taken, Full, Free}
-use Rattle.lookup.specs.RoomForOne.{executable-room}
+use Rattle.rules.specs.{Words.{any, _⇒_, first, first-place}, Codes.is-executable}
+use Rattle.lookup.specs.{declared.Room.Room, declared.Room.the-variants.{Taken, Full, Free}, RoomForOne.executable-room}
 
 abbrev pub executable-code : Room → ℕ
 executable-code Taken = 9

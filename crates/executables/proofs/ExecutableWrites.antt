@@ -1,16 +1,9 @@
 -- A write of one field makes of the executable that is named what the rules make of it. Assumes nothing.
 use Prim.Native.Nat.{ℕ, _<_}
-use mathlib.Core.List.{List}
-use mathlib.Core.Path.{_≡_, ap, _∙_}
+use mathlib.Core.{List.List, Path.{_≡_, ap, _∙_}}
 use lib.ListN.{length, set}
-use Rattle.records.specs.Phone.{in-domain, permitted, with-executables, decode, encode, executable-at}
-use Rattle.records.specs.declared.Executable.{Executable}
-use Rattle.records.specs.declared.Event.{Event}
-use Rattle.rules.specs.declared.Chained.{Chained}
-use Rattle.rules.specs.AcceptedImage.{Accepted-image}
-use Rattle.rules.specs.Words.{first-place}
-use Rattle.rules.specs.Chains.{chain-of}
-use Rattle.rules.specs.Codes.{is-executable}
+use Rattle.records.specs.{Phone.{in-domain, permitted, with-executables, decode, encode, executable-at}, declared.Executable.Executable, declared.Event.Event}
+use Rattle.rules.specs.{declared.Chained.Chained, AcceptedImage.Accepted-image, Words.first-place, Chains.chain-of, Codes.is-executable}
 use Rattle.rules.specs.Effects.{verify, permit}
 use Rattle.laws.proofs.Tables.{executables}
 use Rattle.handling.proofs.SlotWrites.{write-is-change}

@@ -1,24 +1,15 @@
 -- An event about executables that is done: what its writer asks, and that what it wrote and told is what the rules say. Assumes nothing.
 use Prim.Native.Nat.{ℕ, _<_}
-use mathlib.Core.Bool.{Bool, true, false}
-use mathlib.Core.List.{List}
-use mathlib.Core.Path.{_≡_, sym, ap, _∙_}
+use mathlib.Core.{Bool.{Bool, true, false}, List.List, Path.{_≡_, sym, ap, _∙_}}
 use lib.ListN.{length}
-use Rattle.records.specs.Phone.{decode, encode, executable-at}
-use Rattle.records.specs.declared.Event.{Event}
-use Rattle.records.specs.declared.Executable.{Executable}
-use Rattle.rules.specs.declared.Answer.{Answer}
-use Rattle.rules.specs.declared.Chained.{Chained}
-use Rattle.rules.specs.Chains.{links, chain-of}
-use Rattle.rules.specs.Forms.{with-kind}
-use Rattle.rules.specs.Effects.{effect, install-executable, delete-executable, verify, permit}
-use Rattle.rules.specs.Step.{answer-done, done}
+use Rattle.records.specs.{Phone.{decode, encode, executable-at}, declared.Event.Event, declared.Executable.Executable}
+use Rattle.rules.specs.{declared.Answer.Answer, declared.Chained.Chained, Chains.{links, chain-of}, Forms.with-kind}
+use Rattle.rules.specs.{Effects.{effect, install-executable, delete-executable, verify, permit}, Step.{answer-done, done}}
 use Rattle.handling.specs.Handled.{Handled}
 use Rattle.executables.specs.Acting.{permission-kind, permission-write}
 use Rattle.keeping.proofs.Unrefused.{id-formed}
 use Rattle.handling.proofs.Handles.{handled-done, handled-still, accepted-phone, named-id, acted-id, acted-action}
-use Rattle.executables.proofs.ActsOnExecutable.{Acts}
-use Rattle.executables.proofs.Tells.{verify-tells, request-tells}
+use Rattle.executables.proofs.{ActsOnExecutable.Acts, Tells.{verify-tells, request-tells}}
 use Rattle.executables.proofs.Untouched.{install-still, delete-still, verify-still, permit-still, request-unchanged}
 
 module _ {l : List ℕ} {e : Event} {i : ℕ} where

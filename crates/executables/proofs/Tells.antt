@@ -1,24 +1,12 @@
 -- What verify and request are told: the executable's domain and its link count. Assumes nothing.
 use Prim.Native.Nat.{ℕ, _<_}
 use mathlib.Core.Path.{_≡_, refl, sym, ap, _∙_}
-use lib.Dec.{T}
-use lib.ListN.{length}
-use Rattle.records.specs.Phone.{Trust, Phone, executable-at}
-use Rattle.records.specs.declared.Executable.{Executable}
-use Rattle.records.specs.declared.Event.{Event}
-use Rattle.rules.specs.declared.Answer.{Answer}
-use Rattle.rules.specs.declared.Chained.{Chained}
-use Rattle.rules.specs.Chains.{links, chain-of}
-use Rattle.rules.specs.Forms.{with-kind}
-use Rattle.rules.specs.Codes.{is-executable, executable-named, executable-known}
-use Rattle.rules.specs.Effects.{changed}
-use Rattle.rules.specs.Step.{answer-done, done}
-use Rattle.laws.proofs.Accepted.{Accepted}
-use Rattle.laws.proofs.Accepts.{true-T}
-use Rattle.keeping.proofs.Heard.{named-verified}
-use Rattle.keeping.proofs.Verified.{verdict, one-verified, verify-changed}
-use Rattle.rules.specs.Words.{first-place}
-use Rattle.laws.proofs.Places.{place-some}
+use lib.{Dec.T, ListN.length}
+use Rattle.records.specs.{Phone.{Trust, Phone, executable-at}, declared.Executable.Executable, declared.Event.Event}
+use Rattle.rules.specs.{declared.Answer.Answer, declared.Chained.Chained, Chains.{links, chain-of}, Forms.with-kind}
+use Rattle.rules.specs.{Codes.{is-executable, executable-named, executable-known}, Effects.changed, Step.{answer-done, done}, Words.first-place}
+use Rattle.laws.proofs.{Accepted.Accepted, Accepts.true-T, Places.place-some}
+use Rattle.keeping.proofs.{Heard.named-verified, Verified.{verdict, one-verified, verify-changed}}
 use Rattle.handling.proofs.Named.{executable-here}
 use Rattle.executables.proofs.Untouched.{request-unchanged}
 

@@ -1,25 +1,14 @@
 -- Kinds 10 to 15 touch no chain: after their effect there is nothing to settle. Assumes nothing.
 use Prim.Native.Nat.{ℕ}
-use mathlib.Core.Bool.{Bool, true, false}
-use mathlib.Core.List.{List·Memᴰ, Memᴰ·of-map}
-use mathlib.Core.Logic.{_≢_, _⊎_, inl, inr}
-use mathlib.Core.Path.{_≡_, refl, sym, subst, _∙_}
+use mathlib.Core.{Bool.{Bool, true, false}, List.{List·Memᴰ, Memᴰ·of-map}, Logic.{_≢_, _⊎_, inl, inr}, Path.{_≡_, refl, sym, subst, _∙_}}
 use lib.Dec.{T}
 use Rattle.bits.specs.Bits.{set-bit, clear-bit}
-use Rattle.records.specs.Phone.{Phone, no-executable, permitted}
-use Rattle.records.specs.declared.Executable.{Executable}
-use Rattle.records.specs.declared.Event.{Event}
-use Rattle.rules.specs.Words.{at, fill, change}
-use Rattle.rules.specs.Chains.{chains-to}
-use Rattle.rules.specs.Forms.{with-kind}
-use Rattle.rules.specs.Codes.{is-executable}
+use Rattle.records.specs.{Phone.{Phone, no-executable, permitted}, declared.Executable.Executable, declared.Event.Event}
+use Rattle.rules.specs.{Words.{at, fill, change}, Chains.chains-to, Forms.with-kind, Codes.is-executable}
 use Rattle.rules.specs.Effects.{effect, settle, changed, install-executable, delete-executable, permit}
 use Rattle.executables.specs.Acting.{permission-kind}
-use Rattle.laws.proofs.Accepted.{Accepted}
-use Rattle.laws.proofs.Lists.{fill-out}
-use Rattle.laws.proofs.Changes.{at-cases}
-use Rattle.keeping.proofs.Settle.{settle-still, request-changed}
-use Rattle.keeping.proofs.Verified.{verify-effect, verify-changed}
+use Rattle.laws.proofs.{Accepted.Accepted, Lists.fill-out, Changes.at-cases}
+use Rattle.keeping.proofs.{Settle.{settle-still, request-changed}, Verified.{verify-effect, verify-changed}}
 
 module _ (p : Phone) (ok : Accepted p) where
   -- it chains to the domain that it has, if it has one

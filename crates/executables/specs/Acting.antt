@@ -2,14 +2,9 @@
 use Prim.Native.Nat.{ℕ}
 use mathlib.Core.Bool.{Bool, cond}
 use Rattle.bits.specs.Bits.{set-bit, clear-bit}
-use Rattle.records.specs.Phone.{Phone, executable-at}
-use Rattle.records.specs.declared.Event.{Event}
-use Rattle.rules.specs.declared.Chained.{Chained}
-use Rattle.rules.specs.Words.{first, first-place}
-use Rattle.rules.specs.Chains.{chain-of}
-use Rattle.rules.specs.Codes.{is-executable}
-use Rattle.handling.specs.declared.Plan.{Plan}
-use Rattle.handling.specs.Plans.{plan, executable-rows}
+use Rattle.records.specs.{Phone.{Phone, executable-at}, declared.Event.Event}
+use Rattle.rules.specs.{declared.Chained.Chained, Words.{first, first-place}, Chains.chain-of, Codes.is-executable}
+use Rattle.handling.specs.{declared.Plan.Plan, Plans.{plan, executable-rows}}
 
 -- what stands against an event of kind k on the executable that it names, besides its form, or the slot of that executable
 abbrev pub acting : ℕ → Phone → Event → Plan

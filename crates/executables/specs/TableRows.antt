@@ -1,13 +1,9 @@
 -- What stands against a request by the table. Definitions only.
 use Prim.Native.Nat.{ℕ}
-use mathlib.Core.Bool.{not, _&&_}
-use mathlib.Core.List.{List, [], _∷_}
+use mathlib.Core.{Bool.{not, _&&_}, List.{List, [], _∷_}}
 use lib.Dec.{eqb}
-use Rattle.records.specs.Layout.{row-byte}
-use Rattle.records.specs.Phone.{Phone, row-at}
-use Rattle.records.specs.declared.Executable.{Executable}
-use Rattle.rules.specs.Words.{Check, _⇒_}
-use Rattle.rules.specs.Codes.{has-permission}
+use Rattle.records.specs.{Layout.row-byte, Phone.{Phone, row-at}, declared.Executable.Executable}
+use Rattle.rules.specs.{Words.{Check, _⇒_}, Codes.has-permission}
 
 -- action a of executable x, by the table byte for its domain
 abbrev pub table-rows : Phone → Executable → ℕ → List Check

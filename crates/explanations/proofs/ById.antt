@@ -1,16 +1,13 @@
 -- What `by-id` lists: every record that passes with an id above n, in order of id, and no other. Assumes nothing.
 use Prim.Native.Nat.{ℕ, zero, suc, _+_, _≤_, _<_}
 use mathlib.Core.Bool.{Bool, true, false, cond, not, _&&_}
-use mathlib.Core.List.{List, [], _∷_, map, List·Memᴰ, List·Memᴰ·head, List·Memᴰ·tail, List·Memᴰ·cases-cons, List·Memᴰ·not-nil}
-use mathlib.Core.Logic.{_⊎_, inl, inr}
+use mathlib.Core.{List.{List, [], _∷_, map, List·Memᴰ, List·Memᴰ·head, List·Memᴰ·tail, List·Memᴰ·cases-cons, List·Memᴰ·not-nil}, Logic.{_⊎_, inl, inr}}
 use mathlib.Core.Path.{_≡_, refl, subst, sym}
 use native.Mathlib.Omega.{arith}
-use lib.Dec.{T, T-not, eqb, ltb, ltb→lt, lt→ltb, nltb→le, not-T, eqb→eq}
-use lib.ListN.{length}
+use lib.{Dec.{T, T-not, eqb, ltb, ltb→lt, lt→ltb, nltb→le, not-T, eqb→eq}, ListN.length}
 use Rattle.records.specs.declared.Certificate.{Certificate}
 use Rattle.laws.proofs.Tests.{tests, neqb→ne, and-i, by-test}
-use Rattle.explanations.specs.Why.{lowest, by-id}
-use Rattle.explanations.specs.Claims.{count, Rising}
+use Rattle.explanations.specs.{Why.{lowest, by-id}, Claims.{count, Rising}}
 use Rattle.explanations.proofs.LowestId.{cond-cases, Found, lowest-found, lowest-least}
 
 -- ---- how many pass

@@ -1,27 +1,15 @@
 -- The four cases of an explanation: one applies and no other, and what is told in each. Assumes nothing.
 use Prim.Native.Nat.{ℕ, _≤_}
-use mathlib.Core.Bool.{Bool, true, false, not, _&&_}
-use mathlib.Core.List.{List, [], _∷_}
-use mathlib.Core.Logic.{_⊎_, inl, inr, _≢_}
-use mathlib.Core.Path.{_≡_, refl, sym, _∙_}
+use mathlib.Core.{Bool.{Bool, true, false, not, _&&_}, List.{List, [], _∷_}, Logic.{_⊎_, inl, inr, _≢_}, Path.{_≡_, refl, sym, _∙_}}
 use lib.Dec.{T, T-not, eqb}
-use Rattle.records.specs.Phone.{Trust}
-use Rattle.records.specs.declared.Executable.{Executable}
-use Rattle.records.specs.declared.Certificate.{Certificate}
-use Rattle.rules.specs.Words.{any}
-use Rattle.rules.specs.Chains.{chains-to, chain-domain, most-links}
-use Rattle.rules.specs.Explicit.{Chain, ends, goes-on, Chain-within}
-use Rattle.laws.proofs.Tests.{eq→eqb, neqb→ne, ne→neqb, not-elim}
-use Rattle.laws.proofs.Lists.{any-in}
-use Rattle.laws.proofs.Shortest.{chains-signed, chains-chain, chain-chains}
-use Rattle.laws.proofs.Domain.{chain-found, chain-domain-is}
+use Rattle.records.specs.{Phone.Trust, declared.Executable.Executable, declared.Certificate.Certificate, declared.Card.Card}
+use Rattle.rules.specs.{Words.any, Chains.{chains-to, chain-domain, most-links}, Explicit.{Chain, ends, goes-on, Chain-within}}
+use Rattle.laws.proofs.{Tests.{eq→eqb, neqb→ne, ne→neqb, not-elim}, Lists.any-in, Shortest.{chains-signed, chains-chain, chain-chains}}
+use Rattle.laws.proofs.{Domain.{chain-found, chain-domain-is}, Accepted.Held}
 use native.Mathlib.Omega.{arith}
-use Rattle.records.specs.declared.Card.{Card}
-use Rattle.laws.proofs.Accepted.{Held}
-use Rattle.explanations.proofs.Reasons.{occupied}
+use Rattle.explanations.proofs.{Reasons.occupied, LowestId.cond-cases}
 use Rattle.explanations.specs.Why.{Line, has-key, its-domain, unsigned-line, unheld-line, chained, unsigned, held, chain-lines, reason-lines, explained}
 use Rattle.explanations.specs.Claims.{count, cases}
-use Rattle.explanations.proofs.LowestId.{cond-cases}
 
 -- a chain's first record has its key
 chain-held : (t : Trust) {d k : ℕ} {l : List Certificate} → Chain t d k l → T (any (has-key k) (t .certificates))

@@ -1,28 +1,14 @@
 -- What `climb` lists: a chain of n records, where n is the least that serves, with the lowest id at each place. Assumes nothing.
 use Prim.Native.Nat.{ℕ, zero, suc, _≤_, _<_}
-use mathlib.Core.Bool.{Bool, _&&_}
-use mathlib.Core.List.{List, _∷_, List·Memᴰ}
-use mathlib.Core.Logic.{_≢_, _⊎_, inl, inr}
-use mathlib.Core.Path.{_≡_, refl, sym, ap, subst, _∙_}
+use mathlib.Core.{Bool.{Bool, _&&_}, List.{List, _∷_, List·Memᴰ}, Logic.{_≢_, _⊎_, inl, inr}, Path.{_≡_, refl, sym, ap, subst, _∙_}}
 use native.Mathlib.Omega.{arith}
-use lib.Dec.{T, eqb, leb, leb→le, nleb→lt, eqb→eq}
-use lib.ListN.{length}
-use Rattle.records.specs.Phone.{Trust}
-use Rattle.records.specs.declared.Card.{Card}
-use Rattle.records.specs.declared.Certificate.{Certificate}
-use Rattle.rules.specs.Words.{least}
-use Rattle.rules.specs.Chains.{trusted-root, link, serves, good, within, chains-to, links, most-links}
-use Rattle.rules.specs.Explicit.{Chain, ends, goes-on, Shortest}
-use Rattle.laws.proofs.Tests.{tests, or-cases, by-test}
-use Rattle.laws.proofs.Lists.{any-in, any-out}
-use Rattle.laws.proofs.Least.{least-small, least-passes, least-least}
-use Rattle.laws.proofs.Keys.{served}
-use Rattle.laws.proofs.Accepted.{Held}
+use lib.{Dec.{T, eqb, leb, leb→le, nleb→lt, eqb→eq}, ListN.length}
+use Rattle.records.specs.{Phone.Trust, declared.Card.Card, declared.Certificate.Certificate}
+use Rattle.rules.specs.{Words.least, Chains.{trusted-root, link, serves, good, within, chains-to, links, most-links}, Explicit.{Chain, ends, goes-on, Shortest}}
+use Rattle.laws.proofs.{Tests.{tests, or-cases, by-test}, Lists.{any-in, any-out}, Least.{least-small, least-passes, least-least}, Keys.served, Accepted.Held}
 use Rattle.laws.proofs.Shortest.{chains-signed, chains-chain, links-small, links-shortest, links-none}
-use Rattle.explanations.specs.Why.{lowest, climb, chain-told}
-use Rattle.explanations.specs.Claims.{Lowest-each}
-use Rattle.explanations.proofs.LowestId.{cond-cases, lowest-found, lowest-least}
-use Rattle.explanations.proofs.Reasons.{occupied}
+use Rattle.explanations.specs.{Why.{lowest, climb, chain-told}, Claims.Lowest-each}
+use Rattle.explanations.proofs.{LowestId.{cond-cases, lowest-found, lowest-least}, Reasons.occupied}
 
 pub length-climb : (n : ℕ) (t : Trust) (d k : ℕ) → length (climb n t d k) ≡ n
 unfolding climb

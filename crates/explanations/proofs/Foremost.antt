@@ -1,21 +1,11 @@
 -- Of all chains as short, the one that is climbed comes first in the order of ids. Assumes nothing.
 use Prim.Native.Nat.{ℕ}
-use mathlib.Core.List.{List}
-use mathlib.Core.Logic.{_≢_}
-use mathlib.Core.Path.{_≡_, sym, ap, subst, _∙_}
-use lib.Dec.{T}
-use lib.ListN.{length}
-use Rattle.records.specs.Phone.{Trust}
-use Rattle.records.specs.declared.Card.{Card}
-use Rattle.records.specs.declared.Certificate.{Certificate}
-use Rattle.rules.specs.Chains.{good, links}
-use Rattle.rules.specs.Explicit.{Root, Issued, Chain, ends, goes-on}
-use Rattle.laws.proofs.Tests.{tests}
-use Rattle.laws.proofs.Distinct.{alone}
-use Rattle.laws.proofs.Keys.{served}
-use Rattle.laws.proofs.Accepted.{Held}
-use Rattle.explanations.specs.Why.{climb, chain-told}
-use Rattle.explanations.specs.Claims.{Not-after}
+use mathlib.Core.{List.List, Logic._≢_, Path.{_≡_, sym, ap, subst, _∙_}}
+use lib.{Dec.T, ListN.length}
+use Rattle.records.specs.{Phone.Trust, declared.Card.Card, declared.Certificate.Certificate}
+use Rattle.rules.specs.{Chains.{good, links}, Explicit.{Root, Issued, Chain, ends, goes-on}}
+use Rattle.laws.proofs.{Tests.tests, Distinct.alone, Keys.served, Accepted.Held}
+use Rattle.explanations.specs.{Why.{climb, chain-told}, Claims.Not-after}
 use Rattle.explanations.proofs.Climb.{choice, Serving, served-by, choice-least, choice-serves}
 
 module _ (cards : List Card) (t : Trust) (h : Held cards (t .certificates)) (d : ℕ) (trusted : d ≢ 0) where

@@ -1,21 +1,12 @@
 -- `holders` lists the stored records with a key: each, and no other, in order of id. Assumes nothing.
 use Prim.Native.Nat.{ℕ, _≤_}
-use mathlib.Core.List.{List, map, List·Memᴰ, Memᴰ·cast}
-use mathlib.Core.Logic.{_≢_}
-use mathlib.Core.Path.{_≡_, refl, sym, _∙_}
+use mathlib.Core.{List.{List, map, List·Memᴰ, Memᴰ·cast}, Logic._≢_, Path.{_≡_, refl, sym, _∙_}}
 use native.Mathlib.Omega.{arith}
-use lib.ListN.{length}
-use lib.Dec.{eqb→eq}
-use Rattle.records.specs.Phone.{Trust}
-use Rattle.records.specs.declared.Card.{Card}
-use Rattle.records.specs.declared.Certificate.{Certificate}
-use Rattle.laws.proofs.Tests.{eq→eqb}
-use Rattle.laws.proofs.Distinct.{alone}
-use Rattle.laws.proofs.Accepted.{Held}
-use Rattle.explanations.specs.Why.{has-key, holders}
-use Rattle.explanations.specs.Claims.{Rising}
-use Rattle.explanations.proofs.ById.{by-id-rising, by-id-small, by-id-found, by-id-all}
-use Rattle.explanations.proofs.Reasons.{occupied}
+use lib.{ListN.length, Dec.eqb→eq}
+use Rattle.records.specs.{Phone.Trust, declared.Card.Card, declared.Certificate.Certificate}
+use Rattle.laws.proofs.{Tests.eq→eqb, Distinct.alone, Accepted.Held}
+use Rattle.explanations.specs.{Why.{has-key, holders}, Claims.Rising}
+use Rattle.explanations.proofs.{ById.{by-id-rising, by-id-small, by-id-found, by-id-all}, Reasons.occupied}
 
 pub holders-rising : (t : Trust) (k : ℕ) → Rising 0 (map (λ c. c .id) (holders t k))
 unfolding holders

@@ -1,22 +1,13 @@
 -- How many lines an explanation has: one at least, and no more than there are slots, or five. Assumes nothing.
 use Prim.Native.Nat.{ℕ, suc, _≤_}
-use mathlib.Core.Bool.{not}
-use mathlib.Core.List.{List, [], _∷_, List·Memᴰ, List·Memᴰ·head, List·Memᴰ·tail}
+use mathlib.Core.{Bool.not, List.{List, [], _∷_, List·Memᴰ, List·Memᴰ·head, List·Memᴰ·tail}}
 use native.Mathlib.Omega.{arith}
-use lib.Dec.{T, eqb, eqb→eq}
-use lib.ListN.{length, length-append, length-map, length-reverse}
-use Rattle.records.specs.Phone.{Trust}
-use Rattle.records.specs.declared.Card.{Card}
-use Rattle.records.specs.declared.Executable.{Executable}
+use lib.{Dec.{T, eqb, eqb→eq}, ListN.{length, length-append, length-map, length-reverse}}
+use Rattle.records.specs.{Phone.Trust, declared.Card.Card, declared.Executable.Executable}
 use Rattle.rules.specs.Chains.{most-links}
-use Rattle.laws.proofs.Tests.{neqb→ne}
-use Rattle.laws.proofs.Lists.{any-out}
-use Rattle.laws.proofs.Accepted.{Held}
+use Rattle.laws.proofs.{Tests.neqb→ne, Lists.any-out, Accepted.Held}
 use Rattle.explanations.specs.Why.{has-key, holders, its-domain, untrusted-line, chained, unsigned, held, despite, chain-lines, explained}
-use Rattle.explanations.proofs.LowestId.{cond-cases}
-use Rattle.explanations.proofs.Holders.{holders-few, holders-in}
-use Rattle.explanations.proofs.Climb.{told-length}
-use Rattle.explanations.proofs.Cases.{chained-chains, explained-cases}
+use Rattle.explanations.proofs.{LowestId.cond-cases, Holders.{holders-few, holders-in}, Climb.told-length, Cases.{chained-chains, explained-cases}}
 
 mem-long : {A : Type 0} {a : A} {l : List A} → List·Memᴰ a l → 1 ≤ length l
 mem-long (List·Memᴰ·head e) = omega arith

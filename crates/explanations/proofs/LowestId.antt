@@ -1,8 +1,6 @@
 -- What `lowest` finds: a record that passes with an id above n, and none has a lower. Assumes nothing.
 use Prim.Native.Nat.{ℕ, _≤_, _<_}
-use mathlib.Core.Bool.{Bool, true, false, cond, not, _&&_, _||_}
-use mathlib.Core.List.{List, [], _∷_, List·Memᴰ, List·Memᴰ·head, List·Memᴰ·tail}
-use mathlib.Core.Logic.{_≢_, _⊎_, inl, inr}
+use mathlib.Core.{Bool.{Bool, true, false, cond, not, _&&_, _||_}, List.{List, [], _∷_, List·Memᴰ, List·Memᴰ·head, List·Memᴰ·tail}, Logic.{_≢_, _⊎_, inl, inr}}
 use mathlib.Core.Path.{_≡_, refl, ap, subst}
 use native.Mathlib.Omega.{arith}
 use lib.Dec.{T, eqb, ltb, ltb→lt, lt→ltb, nltb→le, eqb→eq}

@@ -1,22 +1,13 @@
 -- The reasons: the first that holds, and where a key does not chain one holds of each record with that key. Assumes nothing.
 use Prim.Native.Nat.{ℕ}
-use mathlib.Core.Bool.{true, false}
-use mathlib.Core.List.{List, [], _∷_, List·Memᴰ}
-use mathlib.Core.Logic.{_≢_, _⊎_, inl, inr}
-use mathlib.Core.Path.{_≡_, refl, ap, _∙_}
+use mathlib.Core.{Bool.{true, false}, List.{List, [], _∷_, List·Memᴰ}, Logic.{_≢_, _⊎_, inl, inr}, Path.{_≡_, refl, ap, _∙_}}
 use native.Mathlib.Omega.{arith}
 use lib.Dec.{T, eqb, eqb→eq}
-use Rattle.records.specs.Phone.{Trust, no-certificate}
-use Rattle.records.specs.declared.Card.{Card}
-use Rattle.records.specs.declared.Certificate.{Certificate}
+use Rattle.records.specs.{Phone.{Trust, no-certificate}, declared.Card.Card, declared.Certificate.Certificate}
 use Rattle.rules.specs.Words.{any, Check, _⇒_, first}
 use Rattle.rules.specs.Chains.{present, in-date, valid-root, trusted-root, link, serves, good, within, chains-to, chain-domain, most-links}
-use Rattle.laws.proofs.Tests.{tests, eq→eqb, neqb→ne, by-test, not-elim, first-out}
-use Rattle.laws.proofs.Lists.{any-in}
-use Rattle.laws.proofs.Accepted.{Occupied, Held}
-use Rattle.laws.proofs.Domain.{chain-domain-is}
-use Rattle.explanations.specs.Why.{said-recovery, signed, reasons, reason}
-use Rattle.explanations.specs.Claims.{First, here, later}
+use Rattle.laws.proofs.{Tests.{tests, eq→eqb, neqb→ne, by-test, not-elim, first-out}, Lists.any-in, Accepted.{Occupied, Held}, Domain.chain-domain-is}
+use Rattle.explanations.specs.{Why.{said-recovery, signed, reasons, reason}, Claims.{First, here, later}}
 
 pub first-is : (l : List Check) → first l ≢ 0 → First (first l) l
 unfolding first

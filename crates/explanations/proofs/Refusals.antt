@@ -2,24 +2,16 @@
 use Prim.Native.Nat.{_≤_, _<_}
 use mathlib.Core.Bool.{not}
 use mathlib.Core.List.{List, [], _∷_, List·Memᴰ, List·Memᴰ·not-nil, List·Memᴰ·append-cases, List·Memᴰ·eq-of-singleton, Memᴰ·map, Memᴰ·of-map, reverse, map}
-use mathlib.Core.Logic.{_≢_, _⊎_, inl, inr}
-use mathlib.Core.Path.{_≡_, refl, sym, ap, subst, _∙_}
+use mathlib.Core.{Logic.{_≢_, _⊎_, inl, inr}, Path.{_≡_, refl, sym, ap, subst, _∙_}}
 use native.Mathlib.Omega.{arith}
 use lib.Dec.{T, eqb, eqb→eq}
-use Rattle.records.specs.Phone.{Trust}
-use Rattle.records.specs.declared.Card.{Card}
-use Rattle.records.specs.declared.Certificate.{Certificate}
-use Rattle.records.specs.declared.Executable.{Executable}
+use Rattle.records.specs.{Phone.Trust, declared.Card.Card, declared.Certificate.Certificate, declared.Executable.Executable}
 use Rattle.rules.specs.Chains.{chain-domain}
-use Rattle.laws.proofs.Tests.{eq→eqb, neqb→ne, not-elim}
-use Rattle.laws.proofs.Lists.{any-in}
-use Rattle.laws.proofs.Accepted.{Held}
-use Rattle.explanations.specs.Why.{Line, has-key, holders, its-domain, its-chain, reasons, reason, link-line, reason-line, untrusted-line}
-use Rattle.explanations.specs.Why.{chained, unsigned, held, despite, chain-lines, reason-lines, explained}
+use Rattle.laws.proofs.{Tests.{eq→eqb, neqb→ne, not-elim}, Lists.any-in, Accepted.Held}
+use Rattle.explanations.specs.Why.{Line, has-key, holders, its-domain, its-chain, reasons, reason, link-line, reason-line, untrusted-line, chained}
+use Rattle.explanations.specs.Why.{unsigned, held, despite, chain-lines, reason-lines, explained}
 use Rattle.explanations.specs.Claims.{Refusal}
-use Rattle.explanations.proofs.LowestId.{cond-cases}
-use Rattle.explanations.proofs.Reasons.{first-is, reason-some}
-use Rattle.explanations.proofs.Holders.{holders-out, holders-in}
+use Rattle.explanations.proofs.{LowestId.cond-cases, Reasons.{first-is, reason-some}, Holders.{holders-out, holders-in}}
 use Rattle.explanations.proofs.Cases.{explained-cases, explained-reasons}
 
 -- what the lines of an executable that chains say is no reason

@@ -2,39 +2,20 @@
 -- What they speak of: `explained`, `reasons`, `holders`, `its-chain` (specs/Why), `First`, `Refusal`, `Rising`, `Lowest-each`,
 -- `cases` (specs/Claims), and `Chain`, `Shortest` (rules, specs/Explicit).
 use Prim.Native.Nat.{ℕ, _≤_}
-use mathlib.Core.Bool.{true, not}
-use mathlib.Core.List.{List, [], _∷_, map, List·Memᴰ, map-map}
-use mathlib.Core.Logic.{_≢_, _↔_}
-use mathlib.Core.Path.{_≡_, refl}
+use mathlib.Core.{Bool.{true, not}, List.{List, [], _∷_, map, List·Memᴰ, map-map}, Logic.{_≢_, _↔_}, Path.{_≡_, refl}}
 use native.Mathlib.Omega.{arith}
-use lib.Dec.{T, eqb, eqb→eq}
-use lib.ListN.{length}
-use Rattle.records.specs.Sizes.{most-certificates}
-use Rattle.records.specs.Phone.{Phone, decode}
-use Rattle.records.specs.declared.Certificate.{Certificate}
-use Rattle.records.specs.declared.Executable.{Executable}
-use Rattle.records.proofs.FrameFacts.{fields}
-use Rattle.records.proofs.Said.{length-certificates}
-use Rattle.rules.specs.Chains.{links, most-links}
-use Rattle.rules.specs.Explicit.{Chain, Shortest, Chain-within}
-use Rattle.rules.specs.ImageRules.{accepted}
-use Rattle.rules.specs.Codes.{executable-named}
-use Rattle.laws.proofs.Tests.{neqb→ne}
-use Rattle.laws.proofs.Accepted.{Accepted}
-use Rattle.laws.proofs.Accepts.{accepted-out}
-use Rattle.laws.proofs.Domain.{one-domain}
-use Rattle.explanations.specs.Why.{Line, holders, its-domain, its-chain, said-recovery, reason}
-use Rattle.explanations.specs.Why.{reason-line, untrusted-line, unsigned-line, unheld-line}
+use lib.{Dec.{T, eqb, eqb→eq}, ListN.length}
+use Rattle.records.specs.{Sizes.most-certificates, Phone.{Phone, decode}, declared.Certificate.Certificate, declared.Executable.Executable}
+use Rattle.records.proofs.{FrameFacts.fields, Said.length-certificates}
+use Rattle.rules.specs.{Chains.{links, most-links}, Explicit.{Chain, Shortest, Chain-within}, ImageRules.accepted, Codes.executable-named}
+use Rattle.laws.proofs.{Tests.neqb→ne, Accepted.Accepted, Accepts.accepted-out, Domain.one-domain}
+use Rattle.explanations.specs.Why.{Line, holders, its-domain, its-chain, said-recovery, reason, reason-line, untrusted-line, unsigned-line, unheld-line}
 use Rattle.explanations.specs.Why.{chained, unsigned, held, despite, chain-lines, reason-lines, explained, explanation}
 use Rattle.explanations.specs.Claims.{count, cases, Rising, Refusal, Lowest-each, Not-after}
-use Rattle.explanations.proofs.LowestId.{cond-cases}
-use Rattle.explanations.proofs.Reasons.{recovery-first}
-use Rattle.explanations.proofs.Refusals.{refusal-told, refusal-some, refusal-each}
-use Rattle.explanations.proofs.Holders.{holders-rising, holders-out, holders-in}
-use Rattle.explanations.proofs.Climb.{told-shortest, told-lowest}
-use Rattle.explanations.proofs.Foremost.{told-foremost}
-use Rattle.explanations.proofs.Cases as Cases
+use Rattle.explanations.proofs.{LowestId.cond-cases, Reasons.recovery-first, Refusals.{refusal-told, refusal-some, refusal-each}}
+use Rattle.explanations.proofs.{Holders.{holders-rising, holders-out, holders-in}, Climb.{told-shortest, told-lowest}, Foremost.told-foremost}
 use Rattle.explanations.proofs.Lengths.{explained-some, explained-few}
+use Rattle.explanations.proofs.Cases as Cases
 
 module _ (p : Phone) (ok : Accepted p) (x : Executable) where
   -- ==== The cases

@@ -1,15 +1,9 @@
 -- What the theorems say of an explanation, as propositions. Definitions only.
 use Prim.Native.Nat.{ℕ, suc, _≤_, _<_}
-use mathlib.Core.Bool.{Bool, cond, not, _&&_}
-use mathlib.Core.List.{List, [], _∷_, List·Memᴰ}
-use mathlib.Core.Path.{_≡_}
-use lib.Dec.{T}
-use lib.ListN.{length}
-use Rattle.records.specs.Phone.{Trust}
-use Rattle.records.specs.declared.Certificate.{Certificate}
-use Rattle.records.specs.declared.Executable.{Executable}
-use Rattle.rules.specs.Words.{Check, _⇒_}
-use Rattle.rules.specs.Chains.{good}
+use mathlib.Core.{Bool.{Bool, cond, not, _&&_}, List.{List, [], _∷_, List·Memᴰ}, Path._≡_}
+use lib.{Dec.T, ListN.length}
+use Rattle.records.specs.{Phone.Trust, declared.Certificate.Certificate, declared.Executable.Executable}
+use Rattle.rules.specs.{Words.{Check, _⇒_}, Chains.good}
 use Rattle.explanations.specs.Why.{Line, reasons, chained, unsigned, held}
 
 -- how many pass the test

@@ -1,15 +1,9 @@
 -- 02, item 2: why an executable has its domain or has none, as a list of lines. Definitions only.
 use Prim.Native.Nat.{ℕ, zero, suc}
-use mathlib.Core.Bool.{Bool, cond, not, _&&_, _||_}
-use mathlib.Core.List.{List, [], _∷_, _++_, map, reverse}
-use lib.Dec.{eqb, ltb}
-use lib.ListN.{length}
-use Rattle.records.specs.Phone.{Trust, Phone, no-certificate}
-use Rattle.records.specs.declared.Certificate.{Certificate}
-use Rattle.records.specs.declared.Executable.{Executable}
-use Rattle.rules.specs.Words.{any, Check, _⇒_, first}
-use Rattle.rules.specs.Chains.{present, in-date, serves, good, chain-domain, links}
-use Rattle.rules.specs.Codes.{executable-named}
+use mathlib.Core.{Bool.{Bool, cond, not, _&&_, _||_}, List.{List, [], _∷_, _++_, map, reverse}}
+use lib.{Dec.{eqb, ltb}, ListN.length}
+use Rattle.records.specs.{Phone.{Trust, Phone, no-certificate}, declared.Certificate.Certificate, declared.Executable.Executable}
+use Rattle.rules.specs.{Words.{any, Check, _⇒_, first}, Chains.{present, in-date, serves, good, chain-domain, links}, Codes.executable-named}
 
 -- ---- "in order of id"
 

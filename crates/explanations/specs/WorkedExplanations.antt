@@ -1,20 +1,12 @@
 -- Explanations of images of 01, computed. Assumes nothing.
-use mathlib.Core.Bool.{true}
-use mathlib.Core.List.{List, [], _∷_}
-use mathlib.Core.Path.{_≡_, refl}
+use mathlib.Core.{Bool.true, List.{List, [], _∷_}, Path.{_≡_, refl}}
 use lib.ListN.{take}
 use Prim.Native.Nat.{ℕ}
-use Rattle.records.specs.Phone.{Trust, decode, no-certificate}
-use Rattle.records.specs.declared.Certificate.{Certificate}
-use Rattle.records.specs.declared.Executable.{Executable}
-use Rattle.rules.specs.Words.{_⇒_}
-use Rattle.rules.specs.Step.{run}
-use Rattle.rules.specs.Computing.{computing}
-use Rattle.rules.specs.WorkedRun.{image, events, chains-image}
-use Rattle.explanations.specs.Why.{lowest, by-id, holders, climb, chain-told, reasons, reason, line}
-use Rattle.explanations.specs.Why.{chained, unsigned, held, despite, explained, explanation}
-use Rattle.explanations.specs.Why.{said-link, said-unsigned, said-unheld, said-untrusted}
-use Rattle.explanations.specs.Why.{said-recovery, said-absent, said-invalid, said-disabled, said-past, said-unserved}
+use Rattle.records.specs.{Phone.{Trust, decode, no-certificate}, declared.Certificate.Certificate, declared.Executable.Executable}
+use Rattle.rules.specs.{Words._⇒_, Step.run, Computing.computing, WorkedRun.{image, events, chains-image}}
+use Rattle.explanations.specs.Why.{lowest, by-id, holders, climb, chain-told, reasons, reason, line, chained, unsigned, held, despite, explained}
+use Rattle.explanations.specs.Why.{explanation, said-link, said-unsigned, said-unheld, said-untrusted, said-recovery, said-absent, said-invalid}
+use Rattle.explanations.specs.Why.{said-disabled, said-past, said-unserved}
 
 -- a certificate of domain 3 and an executable, with what varies between the examples; a trust with no card, at clock 0
 abbrev pub root : ℕ → ℕ → ℕ → ℕ → Certificate

@@ -1,15 +1,11 @@
 -- From the rows of an event to its plan: its form, the rows on the record that it names, and the rest. Assumes nothing.
 use Prim.Native.Nat.{ℕ}
-use mathlib.Core.Bool.{Bool, true, false, not}
-use mathlib.Core.List.{List, _∷_, _++_}
-use mathlib.Core.Logic.{_≢_}
-use mathlib.Core.Path.{_≡_, refl, ap, _∙_}
+use mathlib.Core.{Bool.{Bool, true, false, not}, List.{List, _∷_, _++_}, Logic._≢_, Path.{_≡_, refl, ap, _∙_}}
 use native.Mathlib.Omega.{arith}
 use lib.Dec.{T}
 use Rattle.rules.specs.Words.{Check, _⇒_, first}
 use Rattle.laws.proofs.Tests.{coded}
-use Rattle.handling.specs.declared.Plan.{Plan}
-use Rattle.handling.specs.Plans.{plan}
+use Rattle.handling.specs.{declared.Plan.Plan, Plans.plan}
 use Rattle.handling.proofs.CodeRows.{gives, here, next, rest, says}
 use Rattle.handling.proofs.PlanLaws.{plan-refused, plan-on, refused-code, refused-not-0, on-code, on-slot, stands, decides}
 

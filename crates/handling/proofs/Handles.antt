@@ -1,33 +1,17 @@
 -- From what a handler decided, wrote and settled to what it promises. Assumes nothing.
 use Prim.Native.Nat.{ℕ, _<_}
-use mathlib.Core.Bool.{cond}
-use mathlib.Core.List.{List, List·Memᴰ}
-use mathlib.Core.Logic.{_≢_}
-use mathlib.Core.Path.{_≡_, sym, ap, _∙_, subst}
+use mathlib.Core.{Bool.cond, List.{List, List·Memᴰ}, Logic._≢_, Path.{_≡_, sym, ap, _∙_, subst}}
 use native.Mathlib.Omega.{arith}
 use borrow.Author.Tests.{eq-eqb, ne-eqb}
-use lib.Dec.{T}
-use lib.ListN.{length, getD}
-use Rattle.records.specs.Phone.{Phone, decode, encode}
-use Rattle.records.specs.Frame.{Framed}
-use Rattle.records.specs.declared.Event.{Event}
+use lib.{Dec.T, ListN.{length, getD}}
+use Rattle.records.specs.{Phone.{Phone, decode, encode}, Frame.Framed, declared.Event.Event}
 use Rattle.records.proofs.RoundTrip.{decode-encode, framed-encode}
-use Rattle.rules.specs.declared.Answer.{Answer}
-use Rattle.rules.specs.Forms.{with-kind, forms, no-form, action-form}
-use Rattle.rules.specs.Codes.{code-of}
-use Rattle.rules.specs.Effects.{effect, settle, changed}
-use Rattle.rules.specs.Step.{refused, answer-done, done}
-use Rattle.laws.proofs.Tests.{eq→eqb}
-use Rattle.laws.proofs.Accepted.{Accepted}
-use Rattle.laws.proofs.Accepts.{accepted-out}
-use Rattle.keeping.proofs.Unrefused.{unrefused, action-formed}
-use Rattle.keeping.proofs.Shape.{shape-effect, sized-shape}
-use Rattle.rules.specs.AcceptedImage.{Accepted-image}
-use Rattle.laws.proofs.Promise.{executable-domain}
+use Rattle.rules.specs.{declared.Answer.Answer, Forms.{with-kind, forms, no-form, action-form}, Codes.code-of, Effects.{effect, settle, changed}}
+use Rattle.rules.specs.{Step.{refused, answer-done, done}, AcceptedImage.Accepted-image}
+use Rattle.laws.proofs.{Tests.eq→eqb, Accepted.Accepted, Accepts.accepted-out, Promise.executable-domain}
+use Rattle.keeping.proofs.{Unrefused.{unrefused, action-formed}, Shape.{shape-effect, sized-shape}}
 use Rattle.chain.specs.Settling.{settle-in, Domains-known}
-use Rattle.handling.specs.declared.Plan.{Plan}
-use Rattle.handling.specs.Plans.{plan}
-use Rattle.handling.specs.Handled.{Handled, Settled}
+use Rattle.handling.specs.{declared.Plan.Plan, Plans.plan, Handled.{Handled, Settled}}
 use Rattle.handling.proofs.PlanLaws.{refused-code, refused-not-0}
 
 module _ {l : List ℕ} {e : Event} where

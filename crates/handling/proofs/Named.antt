@@ -1,15 +1,11 @@
 -- The record that an event names, by the slot where it is found. Assumes nothing.
 use Prim.Native.Nat.{ℕ}
-use mathlib.Core.Bool.{true, false}
-use mathlib.Core.Path.{_≡_, refl}
-use Rattle.records.specs.Phone.{Phone, no-certificate, no-executable, certificate-at, executable-at}
-use Rattle.records.specs.declared.Certificate.{Certificate}
+use mathlib.Core.{Bool.{true, false}, Path.{_≡_, refl}}
+use Rattle.records.specs.{Phone.{Phone, no-certificate, no-executable, certificate-at, executable-at}, declared.Certificate.Certificate}
 use Rattle.records.specs.declared.Executable.{Executable}
-use Rattle.rules.specs.Codes.{has-id, is-executable, certificate-named, executable-named, certificate-known, executable-known}
-use Rattle.rules.specs.Words.{first-place}
+use Rattle.rules.specs.{Codes.{has-id, is-executable, certificate-named, executable-named, certificate-known, executable-known}, Words.first-place}
 use Rattle.laws.proofs.Places.{place-named}
-use Rattle.lookup.specs.declared.Found.{Found}
-use Rattle.lookup.specs.RecordFound.{found}
+use Rattle.lookup.specs.{declared.Found.Found, RecordFound.found}
 use Rattle.lookup.proofs.FoundSlot.{nowhere-none, at-some}
 
 module _ (p : Phone) (id : ℕ) where

@@ -1,24 +1,16 @@
 -- A plan from its code and its slot, and back. Assumes nothing.
 use Prim.Native.Nat.{ℕ, _≤_, _<_}
-use mathlib.Core.Bool.{Bool, true, false, cond, not, _&&_, _||_, false≢true}
-use mathlib.Core.List.{List, [], _∷_, _++_}
-use mathlib.Core.Logic.{_≢_}
-use mathlib.Core.Path.{_≡_, refl, sym, ap, _∙_}
+use mathlib.Core.{Bool.{Bool, true, false, cond, not, _&&_, _||_, false≢true}, List.{List, [], _∷_, _++_}, Logic._≢_, Path.{_≡_, refl, sym, ap, _∙_}}
 use native.Mathlib.Omega.{arith}
 use borrow.Author.Tests.{ne-eqb}
-use lib.Dec.{T, T-not, eqb, eqb→eq}
-use lib.ListN.{length}
-use Rattle.records.specs.Phone.{Phone}
-use Rattle.records.specs.declared.Event.{Event}
-use Rattle.rules.specs.Words.{between, any, Check, _⇒_, first, first-place}
-use Rattle.rules.specs.Forms.{listed, with-kind}
+use lib.{Dec.{T, T-not, eqb, eqb→eq}, ListN.length}
+use Rattle.records.specs.{Phone.Phone, declared.Event.Event}
+use Rattle.rules.specs.{Words.{between, any, Check, _⇒_, first, first-place}, Forms.{listed, with-kind}}
 use Rattle.rules.specs.Codes.{has-id, is-executable, names-certificate, certificate-known, executable-known, id-unknown, no-free-slot, code-of}
-use Rattle.laws.proofs.Accepts.{T-true}
-use Rattle.laws.proofs.Tests.{and-l, and-r, eq→eqb, nor-l, coded}
+use Rattle.laws.proofs.{Accepts.T-true, Tests.{and-l, and-r, eq→eqb, nor-l, coded}}
 use Rattle.keeping.proofs.Unrefused.{unrefused}
 use Rattle.lookup.proofs.FirstWithin.{first-within}
-use Rattle.handling.specs.declared.Plan.{Plan}
-use Rattle.handling.specs.Plans.{plan}
+use Rattle.handling.specs.{declared.Plan.Plan, Plans.plan}
 
 module _ (code slot : ℕ) where
   -- a code that is not 0

@@ -1,9 +1,7 @@
 -- An operator root that gives way to a card, by a write of its mark. Assumes nothing.
 use Prim.Native.Nat.{ℕ}
-use mathlib.Core.Bool.{Bool, true, false, cond}
-use mathlib.Core.Path.{_≡_, sym, ap, _∙_}
-use Rattle.records.specs.Phone.{marked}
-use Rattle.records.specs.declared.Certificate.{Certificate}
+use mathlib.Core.{Bool.{Bool, true, false, cond}, Path.{_≡_, sym, ap, _∙_}}
+use Rattle.records.specs.{Phone.marked, declared.Certificate.Certificate}
 use Rattle.handling.specs.Retiring.{outgoing, retire}
 
 -- x is what was read, and c what stands in the slot

@@ -1,18 +1,11 @@
 -- The slot that a search found: what stands there, and that a write to it is what the rules do to all slots. Assumes nothing.
 use Prim.Native.Nat.{ℕ, zero, suc, _<_}
-use mathlib.Core.Bool.{Bool, true, false, cond, not}
-use mathlib.Core.List.{List, [], _∷_, map}
-use mathlib.Core.Path.{_≡_, sym, ap, _∙_, subst}
-use native.Mathlib.Nat.{le-of-suc-le-suc, not-suc-le-zero}
-use native.Mathlib.Omega.{arith}
-use lib.Dec.{T, eqb, eqb→eq}
-use lib.ListN.{length, getD, set}
-use Rattle.records.specs.Phone.{decode, encode}
-use Rattle.records.specs.Frame.{Framed}
-use Rattle.rules.specs.Words.{change, find, fill, distinct, first-place}
-use Rattle.laws.proofs.Slots.{set-is, fill-is, find-is}
-use Rattle.rules.specs.AcceptedImage.{Accepted-image}
-use Rattle.laws.proofs.Tables.{Part}
+use mathlib.Core.{Bool.{Bool, true, false, cond, not}, List.{List, [], _∷_, map}, Path.{_≡_, sym, ap, _∙_, subst}}
+use native.{Mathlib.Nat.{le-of-suc-le-suc, not-suc-le-zero}, Mathlib.Omega.arith}
+use lib.{Dec.{T, eqb, eqb→eq}, ListN.{length, getD, set}}
+use Rattle.records.specs.{Phone.{decode, encode}, Frame.Framed}
+use Rattle.rules.specs.{Words.{change, find, fill, distinct, first-place}, AcceptedImage.Accepted-image}
+use Rattle.laws.proofs.{Slots.{set-is, fill-is, find-is}, Tables.Part}
 
 module _ {A : Type 0} (t : A → Bool) (d : A) where
   passes : (l : List A) → first-place t l < length l → T (t (getD l (first-place t l) d))

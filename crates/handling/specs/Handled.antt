@@ -1,15 +1,9 @@
 -- What the handler of a kind promises. Definitions only.
 use Prim.Native.Nat.{ℕ}
-use mathlib.Core.Bool.{cond}
-use mathlib.Core.List.{List}
-use mathlib.Core.Path.{_≡_}
+use mathlib.Core.{Bool.cond, List.List, Path._≡_}
 use lib.Dec.{eqb}
-use Rattle.records.specs.Phone.{Phone, decode, encode}
-use Rattle.records.specs.declared.Event.{Event}
-use Rattle.rules.specs.declared.Answer.{Answer}
-use Rattle.rules.specs.Codes.{code-of}
-use Rattle.rules.specs.Effects.{settle, changed}
-use Rattle.rules.specs.Step.{refused, answer-done, done}
+use Rattle.records.specs.{Phone.{Phone, decode, encode}, declared.Event.Event}
+use Rattle.rules.specs.{declared.Answer.Answer, Codes.code-of, Effects.{settle, changed}, Step.{refused, answer-done, done}}
 
 -- what an event of the right length is told on an accepted image, and the image that it leaves
 abbrev pub told : Phone → Event → Answer

@@ -1,14 +1,9 @@
 -- What is decided of an event before anything is written: its code, or the slot that it is about. Definitions only.
 use Prim.Native.Nat.{ℕ}
-use mathlib.Core.Bool.{Bool, cond, not, _&&_, _||_}
-use mathlib.Core.List.{List, [], _∷_, _++_}
+use mathlib.Core.{Bool.{Bool, cond, not, _&&_, _||_}, List.{List, [], _∷_, _++_}}
 use lib.Dec.{eqb}
-use Rattle.records.specs.Phone.{Phone}
-use Rattle.records.specs.declared.Event.{Event}
-use Rattle.rules.specs.Words.{Check, _⇒_, first-place}
-use Rattle.rules.specs.Chains.{present}
-use Rattle.rules.specs.Actors.{may-act, acts-for}
-use Rattle.rules.specs.Forms.{with-kind}
+use Rattle.records.specs.{Phone.Phone, declared.Event.Event}
+use Rattle.rules.specs.{Words.{Check, _⇒_, first-place}, Chains.present, Actors.{may-act, acts-for}, Forms.with-kind}
 use Rattle.rules.specs.Codes.{has-id, is-executable, certificate-named, certificate-known, executable-known, code-of}
 use Rattle.handling.specs.declared.Plan.{Plan}
 

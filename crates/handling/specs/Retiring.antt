@@ -1,12 +1,9 @@
 -- The operator roots on the phone that give way to a card. Definitions only.
 use Prim.Native.Nat.{ℕ}
-use mathlib.Core.Bool.{Bool, not, _&&_, _||_}
-use mathlib.Core.List.{map}
+use mathlib.Core.{Bool.{Bool, not, _&&_, _||_}, List.map}
 use lib.Dec.{eqb}
-use Rattle.records.specs.Phone.{Phone, with-certificates, marked}
-use Rattle.records.specs.declared.Certificate.{Certificate}
-use Rattle.rules.specs.Words.{at}
-use Rattle.rules.specs.Effects.{phone-operator-root}
+use Rattle.records.specs.{Phone.{Phone, with-certificates, marked}, declared.Certificate.Certificate}
+use Rattle.rules.specs.{Words.at, Effects.phone-operator-root}
 
 -- an operator root on the phone that has to go: all of them, or those of another owner
 unfoldable pub outgoing : Bool → ℕ → Certificate → Bool

@@ -1,31 +1,13 @@
 -- Every event keeps the image rules: an accepted phone stays accepted. Assumes nothing.
 use Prim.Native.Nat.{ℕ}
-use mathlib.Core.Bool.{Bool, true, false, cond}
-use mathlib.Core.List.{List, [], _∷_, map, List·Memᴰ}
-use mathlib.Core.Logic.{_≢_, _⊎_, inl, inr}
-use mathlib.Core.Path.{_≡_, subst, sym, _∙_}
-use lib.Dec.{T, eqb, eqb→eq}
-use lib.ListN.{length}
-use Rattle.records.specs.Phone.{Phone, no-certificate, no-executable}
-use Rattle.records.specs.declared.Certificate.{Certificate}
-use Rattle.records.specs.declared.Card.{Card}
-use Rattle.records.specs.declared.Executable.{Executable}
-use Rattle.records.specs.declared.Row.{Row}
-use Rattle.records.specs.declared.Event.{Event}
-use Rattle.rules.specs.Words.{distinct}
-use Rattle.rules.specs.Chains.{present}
-use Rattle.rules.specs.ImageRules.{row-fits}
-use Rattle.rules.specs.Codes.{code-of}
-use Rattle.rules.specs.Effects.{effect, settle, changed}
-use Rattle.laws.proofs.Tests.{or-cases}
-use Rattle.laws.proofs.Distinct.{alone}
-use Rattle.laws.proofs.Accepted.{Occupied, Valid, Kept, Named, Stored, Accepted}
-use Rattle.keeping.proofs.After.{after, after-all}
-use Rattle.keeping.proofs.CertificateMaps.{free-valid}
-use Rattle.keeping.proofs.Unrefused.{unrefused}
-use Rattle.keeping.proofs.ExecutablesKept.{executables-effect, executables-settle, settle-chained}
-use Rattle.keeping.proofs.CertificatesKept.{kept-effect}
-use Rattle.keeping.proofs.Shape.{shape-changed}
+use mathlib.Core.{Bool.{Bool, true, false, cond}, List.{List, [], _∷_, map, List·Memᴰ}, Logic.{_≢_, _⊎_, inl, inr}, Path.{_≡_, subst, sym, _∙_}}
+use lib.{Dec.{T, eqb, eqb→eq}, ListN.length}
+use Rattle.records.specs.{Phone.{Phone, no-certificate, no-executable}, declared.Certificate.Certificate, declared.Card.Card, declared.Executable.Executable}
+use Rattle.records.specs.{declared.Row.Row, declared.Event.Event}
+use Rattle.rules.specs.{Words.distinct, Chains.present, ImageRules.row-fits, Codes.code-of, Effects.{effect, settle, changed}}
+use Rattle.laws.proofs.{Tests.or-cases, Distinct.alone, Accepted.{Occupied, Valid, Kept, Named, Stored, Accepted}}
+use Rattle.keeping.proofs.{After.{after, after-all}, CertificateMaps.free-valid, Unrefused.unrefused}
+use Rattle.keeping.proofs.{ExecutablesKept.{executables-effect, executables-settle, settle-chained}, CertificatesKept.kept-effect, Shape.shape-changed}
 
 pub accepted-changed : (p : Phone) (e : Event) → Accepted p → T (eqb (code-of p e) 0) → Accepted (changed e p)
 unfolding changed settle

@@ -1,11 +1,8 @@
 -- One event and a run of events on a phone, between the rules on bytes and the arguments about them. Definitions only.
-use mathlib.Core.Bool.{cond}
-use mathlib.Core.List.{List, [], _∷_}
+use mathlib.Core.{Bool.cond, List.{List, [], _∷_}}
 use lib.Dec.{eqb}
-use Rattle.records.specs.Phone.{Phone}
-use Rattle.records.specs.declared.Event.{Event}
-use Rattle.rules.specs.Codes.{code-of}
-use Rattle.rules.specs.Effects.{changed}
+use Rattle.records.specs.{Phone.Phone, declared.Event.Event}
+use Rattle.rules.specs.{Codes.code-of, Effects.changed}
 
 -- the phone after an event that is done, and the same phone after one that is refused
 unfoldable pub after : Event → Phone → Phone

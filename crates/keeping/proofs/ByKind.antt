@@ -1,17 +1,14 @@
 -- An event taken by its kind: by any of the sixteen, and by those that withdraw. Assumes nothing.
 use Prim.Native.Nat.{ℕ, zero, suc}
-use mathlib.Core.Bool.{Bool, true, false, _&&_, _||_}
-use mathlib.Core.Path.{_≡_, subst, sym}
-use lib.Dec.{T, eqb, eqb→eq}
-use lib.ListN.{getD}
-use Rattle.records.specs.Phone.{Phone}
-use Rattle.records.specs.declared.Event.{Event}
+use mathlib.Core.{Bool.{Bool, true, false, _&&_, _||_}, Path.{_≡_, subst, sym}}
+use lib.{Dec.{T, eqb, eqb→eq}, ListN.getD}
+use Rattle.records.specs.{Phone.Phone, declared.Event.Event}
 use Rattle.rules.specs.Forms.{forms, no-form}
-pub use Rattle.rules.specs.Forms.{with-kind}
 use Rattle.rules.specs.Effects.{tick, card-in, card-out, card-rule, install-certificate, delete-certificate, mark-valid, mark-invalid, message}
 use Rattle.rules.specs.Effects.{install-executable, delete-executable, verify, permit, request, replace, effect}
 use Rattle.rules.specs.Demands.{withdrawing}
 use Rattle.laws.proofs.Tests.{and-l, and-r}
+pub use Rattle.rules.specs.Forms.{with-kind}
 
 -- the effects under one name: with a line `unfolding the-effects` they compute at a known kind, but for power up, which looks at the card
 unfoldable pub the-effects : Unit {0}

@@ -1,33 +1,18 @@
 -- One event and a run of events on the bytes of an image: what they make of the phone that it says, and that it stays accepted. Assumes nothing.
 use Prim.Native.Nat.{ℕ}
-use mathlib.Core.Bool.{Bool, true, false, cond, not, _&&_, true≢false}
-use mathlib.Core.List.{List, [], _∷_, map}
-use mathlib.Core.Logic.{_≢_, _⊎_, inl, inr, _↔_}
+use mathlib.Core.{Bool.{Bool, true, false, cond, not, _&&_, true≢false}, List.{List, [], _∷_, map}, Logic.{_≢_, _⊎_, inl, inr, _↔_}}
 use mathlib.Core.Path.{_≡_, refl, subst, sym, ap, _∙_}
 use borrow.Author.Tests.{eq-eqb, ne-eqb}
-use lib.Dec.{T, eqb, eqb→eq}
-use lib.ListN.{length}
+use lib.{Dec.{T, eqb, eqb→eq}, ListN.length}
 use Rattle.octets.proofs.ByteLaws.{Bytes}
-use Rattle.records.specs.Sizes.{event-size}
-use Rattle.records.specs.Layout.{event-read, event-bytes}
-use Rattle.records.specs.Phone.{Phone, decode, encode, certificate-at}
-use Rattle.records.specs.declared.Event.{Event}
-use Rattle.records.proofs.Records.{event-read-bytes}
-use Rattle.records.proofs.RoundTrip.{decode-encode, length-encode, frame}
-use Rattle.rules.specs.declared.Answer.{Answer}
-use Rattle.rules.specs.Words.{first, Check, _⇒_}
-use Rattle.rules.specs.ImageRules.{accepted}
-use Rattle.rules.specs.Codes.{rows, refusals, code-of, code}
-use Rattle.rules.specs.Effects.{changed}
+use Rattle.records.specs.{Sizes.event-size, Layout.{event-read, event-bytes}, Phone.{Phone, decode, encode, certificate-at}, declared.Event.Event}
+use Rattle.records.proofs.{Records.event-read-bytes, RoundTrip.{decode-encode, length-encode, frame}}
+use Rattle.rules.specs.{declared.Answer.Answer, Words.{first, Check, _⇒_}, ImageRules.accepted, Codes.{rows, refusals, code-of, code}, Effects.changed}
 use Rattle.rules.specs.Step.{refused, refused-at, refusal, done, Outcome, step, run}
-use Rattle.laws.proofs.Tests.{and-l, and-r, by-test, eq→eqb, neqb→ne, not-elim, first-out}
-use Rattle.laws.proofs.Accepts.{T-true, accepted-out, accepted-in}
+use Rattle.laws.proofs.{Tests.{and-l, and-r, by-test, eq→eqb, neqb→ne, not-elim, first-out}, Accepts.{T-true, accepted-out, accepted-in}}
 use Rattle.laws.proofs.Marks.{Marked-by, changed-marks}
-use Rattle.keeping.proofs.After.{after, after-all}
-use Rattle.keeping.proofs.Shape.{shape-changed, sized-shape, mode-changed}
-use Rattle.keeping.proofs.AcceptedKept.{accepted-changed}
-use Rattle.keeping.proofs.Settle.{request-changed}
-use Rattle.keeping.proofs.Header.{fitting, length-framed, framed-fitting}
+use Rattle.keeping.proofs.{After.{after, after-all}, Shape.{shape-changed, sized-shape, mode-changed}, AcceptedKept.accepted-changed}
+use Rattle.keeping.proofs.{Settle.request-changed, Header.{fitting, length-framed, framed-fitting}}
 
 -- ---- the code
 

@@ -1,29 +1,17 @@
 -- Each change of the certificates, of the clock and of the card keeps the image rules I2 to I5. Assumes nothing.
 use Prim.Native.Nat.{ℕ, _≤_}
-use mathlib.Core.Bool.{Bool, true, false, cond, not, _&&_, _||_}
-use mathlib.Core.List.{List, List·Memᴰ, Memᴰ·of-map}
-use mathlib.Core.Logic.{_≢_, _⊎_, inl, inr}
+use mathlib.Core.{Bool.{Bool, true, false, cond, not, _&&_, _||_}, List.{List, List·Memᴰ, Memᴰ·of-map}, Logic.{_≢_, _⊎_, inl, inr}}
 use mathlib.Core.Path.{_≡_, refl, subst, sym, ap, _∙_}
 use native.Mathlib.Omega.{arith}
 use lib.Dec.{T, eqb, T-not, eqb→eq}
-use Rattle.records.specs.Phone.{Seen, Trust, Phone, no-certificate, marked, enabling, with-card}
-use Rattle.records.specs.declared.Certificate.{Certificate}
-use Rattle.records.specs.declared.Card.{Card}
+use Rattle.records.specs.{Phone.{Seen, Trust, Phone, no-certificate, marked, enabling, with-card}, declared.Certificate.Certificate, declared.Card.Card}
 use Rattle.records.specs.declared.Event.{Event}
-use Rattle.rules.specs.Words.{any, at, change, fill}
-use Rattle.rules.specs.ImageRules.{free-certificate, known-place, operator-of, third-party-root, has-valid-operator}
-use Rattle.rules.specs.Forms.{listed}
-use Rattle.rules.specs.Codes.{has-id}
-use Rattle.rules.specs.Effects.{phone-operator-root, retired, card-rule, enabled-by}
-use Rattle.laws.proofs.Tests.{tests, nand, nor-l}
-use Rattle.laws.proofs.Lists.{fill-out}
-use Rattle.laws.proofs.Distinct.{distinct-fill}
-use Rattle.laws.proofs.Changes.{at-cases}
-use Rattle.laws.proofs.Roots.{valid-kind, valid-domain, valid-mark}
-use Rattle.laws.proofs.Accepted.{Occupied, Valid, Yielding, Kept}
-use Rattle.laws.proofs.Pairs.{has-valid-in}
-use Rattle.keeping.proofs.CertificateMaps.{Slot, Mild, Unmarking, like-marked, like-enabling, held-map, single-map, yielding-map}
-use Rattle.keeping.proofs.CertificateMaps.{mild-at, unmarking-at, slot-at, marked-fits, enabling-fits}
+use Rattle.rules.specs.{Words.{any, at, change, fill}, ImageRules.{free-certificate, known-place, operator-of, third-party-root, has-valid-operator}}
+use Rattle.rules.specs.{Forms.listed, Codes.has-id, Effects.{phone-operator-root, retired, card-rule, enabled-by}}
+use Rattle.laws.proofs.{Tests.{tests, nand, nor-l}, Lists.fill-out, Distinct.distinct-fill, Changes.at-cases, Roots.{valid-kind, valid-domain, valid-mark}}
+use Rattle.laws.proofs.{Accepted.{Occupied, Valid, Yielding, Kept}, Pairs.has-valid-in}
+use Rattle.keeping.proofs.CertificateMaps.{Slot, Mild, Unmarking, like-marked, like-enabling, held-map, single-map, yielding-map, mild-at, unmarking-at}
+use Rattle.keeping.proofs.CertificateMaps.{slot-at, marked-fits, enabling-fits}
 
 abbrev pub seeing : Seen → Trust → Trust
 seeing s t = record { seen = s; certificates = t .certificates }

@@ -1,20 +1,11 @@
 -- The image rules I2 to I5 under a change of every certificate slot. Assumes nothing.
 use Prim.Native.Nat.{ℕ, _≤_}
-use mathlib.Core.Bool.{Bool}
-use mathlib.Core.List.{List, map, List·Memᴰ, Memᴰ·of-map}
-use mathlib.Core.Logic.{_≢_, _⊎_, inl, inr}
-use mathlib.Core.Path.{_≡_, refl, subst, sym, ap, _∙_}
+use mathlib.Core.{Bool.Bool, List.{List, map, List·Memᴰ, Memᴰ·of-map}, Logic.{_≢_, _⊎_, inl, inr}, Path.{_≡_, refl, subst, sym, ap, _∙_}}
 use native.Mathlib.Omega.{arith}
 use lib.Dec.{T}
-use Rattle.records.specs.Phone.{Seen, no-certificate, marked, enabling}
-use Rattle.records.specs.declared.Certificate.{Certificate}
-use Rattle.records.specs.declared.Card.{Card}
-use Rattle.rules.specs.Words.{at}
-use Rattle.rules.specs.ImageRules.{known-place, operator-of}
-use Rattle.laws.proofs.Distinct.{distinct-map}
-use Rattle.laws.proofs.Changes.{at-cases}
-use Rattle.laws.proofs.Roots.{Like, valid-mark, valid-like}
-use Rattle.laws.proofs.Accepted.{Occupied, Valid, Held, Single, Yielding}
+use Rattle.records.specs.{Phone.{Seen, no-certificate, marked, enabling}, declared.Certificate.Certificate, declared.Card.Card}
+use Rattle.rules.specs.{Words.at, ImageRules.{known-place, operator-of}}
+use Rattle.laws.proofs.{Distinct.distinct-map, Changes.at-cases, Roots.{Like, valid-mark, valid-like}, Accepted.{Occupied, Valid, Held, Single, Yielding}}
 
 -- ---- slots that keep all but their marks
 

@@ -1,35 +1,21 @@
 -- Every event keeps the image rules I2 to I5 of the certificates and the card. Assumes nothing.
 use Prim.Native.Nat.{ℕ, _≤_}
-use mathlib.Core.Bool.{Bool, true, false, cond, not, _&&_, _||_}
-use mathlib.Core.List.{map, List·Memᴰ}
-use mathlib.Core.Logic.{_≢_}
-use mathlib.Core.Path.{_≡_, refl, subst, sym, _∙_}
+use mathlib.Core.{Bool.{Bool, true, false, cond, not, _&&_, _||_}, List.{map, List·Memᴰ}, Logic._≢_, Path.{_≡_, refl, subst, sym, _∙_}}
 use native.Mathlib.Omega.{arith}
 use lib.Dec.{T, eqb, not-T, eqb→eq, nltb→le}
-use Rattle.records.specs.Phone.{Phone}
-use Rattle.records.specs.declared.Certificate.{Certificate}
-use Rattle.records.specs.declared.Event.{Event}
-use Rattle.rules.specs.Words.{any, change}
-use Rattle.rules.specs.ImageRules.{known-place, operator-of, operator-root}
-use Rattle.rules.specs.Forms.{with-kind, new-certificate, install-form}
-use Rattle.rules.specs.Codes.{has-id, certificate-named, certificate-known, subject, recovery-named, rival, in-another}
-use Rattle.rules.specs.Codes.{id-unknown, time-back, card-unknown, id-taken, key-elsewhere, install-of-other, mark-of-other, no-such-root, another-valid}
-use Rattle.rules.specs.Codes.{may-replace, cannot-replace}
+use Rattle.records.specs.{Phone.Phone, declared.Certificate.Certificate, declared.Event.Event}
+use Rattle.rules.specs.{Words.{any, change}, ImageRules.{known-place, operator-of, operator-root}, Forms.{with-kind, new-certificate, install-form}}
+use Rattle.rules.specs.Codes.{has-id, certificate-named, certificate-known, subject, recovery-named, rival, in-another, id-unknown, time-back, card-unknown}
+use Rattle.rules.specs.Codes.{id-taken, key-elsewhere, install-of-other, mark-of-other, no-such-root, another-valid, may-replace, cannot-replace}
 use Rattle.rules.specs.Effects.{tick, card-in, card-out, power-up, install-certificate, delete-certificate, after-marking, mark-valid, mark-invalid, message}
 use Rattle.rules.specs.Effects.{replaced, replace, effect}
-use Rattle.laws.proofs.Tests.{tests, eq→eqb, ne→neqb, nand, not-elim}
-use Rattle.laws.proofs.Lists.{none-out}
-use Rattle.laws.proofs.Fits.{occupied-out}
-use Rattle.laws.proofs.Roots.{valid-earlier, valid-kind, valid-domain, valid-mark}
-use Rattle.laws.proofs.Accepted.{Valid, Kept}
-use Rattle.keeping.proofs.ByKind.{the-effects, by-kind}
-use Rattle.keeping.proofs.Unrefused.{Unrefused, owned-formed, replace-formed, replaceable}
+use Rattle.laws.proofs.{Tests.{tests, eq→eqb, ne→neqb, nand, not-elim}, Lists.none-out, Fits.occupied-out}
+use Rattle.laws.proofs.{Roots.{valid-earlier, valid-kind, valid-domain, valid-mark}, Accepted.{Valid, Kept}}
+use Rattle.keeping.proofs.{ByKind.{the-effects, by-kind}, Unrefused.{Unrefused, owned-formed, replace-formed, replaceable}}
 use Rattle.keeping.proofs.Naming.{Found, certificate-named-is, certificate-named-alone}
-use Rattle.keeping.proofs.CertificateChanges.{New, holding, keep-clock, keep-card-in, keep-card-out}
-use Rattle.keeping.proofs.CertificateChanges.{keep-install, keep-delete, keep-invalid, keep-message}
-use Rattle.keeping.proofs.MarkValid.{Clear, keep-valid}
-use Rattle.keeping.proofs.RootReplaced.{Successor, keep-replaced}
-use Rattle.keeping.proofs.Done.{nor-i, nand-i}
+use Rattle.keeping.proofs.CertificateChanges.{New, holding, keep-clock, keep-card-in, keep-card-out, keep-install, keep-delete, keep-invalid}
+use Rattle.keeping.proofs.CertificateChanges.{keep-message}
+use Rattle.keeping.proofs.{MarkValid.{Clear, keep-valid}, RootReplaced.{Successor, keep-replaced}, Done.{nor-i, nand-i}}
 
 -- a new certificate comes unmarked, but for a third party root
 new-unmarked : (m t d : ℕ) (e : Event) → d ≤ 2 → Valid d t (new-certificate m e) → ⊥

@@ -1,21 +1,14 @@
 -- How an event is seen to be done, and the phone after it, done or refused. Assumes nothing.
-use mathlib.Core.Bool.{Bool, true, false, cond, not, _&&_, _||_}
-use mathlib.Core.Path.{_≡_}
+use mathlib.Core.{Bool.{Bool, true, false, cond, not, _&&_, _||_}, Path._≡_}
 use borrow.Author.Tests.{ne-eqb}
-use lib.Dec.{T, eqb, leb}
-use lib.ListN.{getD}
-use Rattle.records.specs.Phone.{Phone}
-use Rattle.records.specs.declared.Event.{Event}
-use Rattle.rules.specs.Words.{all-zero}
-use Rattle.rules.specs.Forms.{forms, no-form, malformed}
-use Rattle.rules.specs.Actors.{may-act, acts-for}
-use Rattle.rules.specs.Codes.{id-unknown, actor-barred, time-back, card-unknown, card-wrong, card-away, id-taken, key-elsewhere}
-use Rattle.rules.specs.Codes.{install-of-other, mark-of-other, no-such-root, another-valid, no-free-slot, never, not-permitted}
-use Rattle.rules.specs.Codes.{cannot-replace, out-of-date, refusals, code-of}
+use lib.{Dec.{T, eqb, leb}, ListN.getD}
+use Rattle.records.specs.{Phone.Phone, declared.Event.Event}
+use Rattle.rules.specs.{Words.all-zero, Forms.{forms, no-form, malformed}, Actors.{may-act, acts-for}}
+use Rattle.rules.specs.Codes.{id-unknown, actor-barred, time-back, card-unknown, card-wrong, card-away, id-taken, key-elsewhere, install-of-other}
+use Rattle.rules.specs.Codes.{mark-of-other, no-such-root, another-valid, no-free-slot, never, not-permitted, cannot-replace, out-of-date, refusals, code-of}
 use Rattle.rules.specs.Effects.{effect, settle, changed}
 use Rattle.laws.proofs.Tests.{and-i, not-intro, neqb→ne, first-in}
-use Rattle.keeping.proofs.After.{after}
-use Rattle.keeping.proofs.Unrefused.{Unrefused, unrefused}
+use Rattle.keeping.proofs.{After.after, Unrefused.{Unrefused, unrefused}}
 
 -- every test of the table under one name: with a line `unfolding the-tests` they compute at a known kind
 unfoldable pub the-tests : Unit {0}

@@ -1,23 +1,13 @@
 -- What an event is told, in bytes: its code, and the domain and the links of a verify and of a request. Assumes nothing.
 use Prim.Native.Nat.{ℕ, _≤_}
-use mathlib.Core.Bool.{Bool, true, false, cond, not, _||_, false≢true}
-use mathlib.Core.List.{List}
-use mathlib.Core.Logic.{_≢_, _⊎_, inl, inr, _↔_}
-use mathlib.Core.Path.{_≡_, refl, sym, ap, ap₂, _∙_}
+use mathlib.Core.{Bool.{Bool, true, false, cond, not, _||_, false≢true}, List.List, Logic.{_≢_, _⊎_, inl, inr, _↔_}, Path.{_≡_, refl, sym, ap, ap₂, _∙_}}
 use native.Mathlib.Omega.{arith}
 use lib.Dec.{T, T-not, eqb, eqb→eq}
-use Rattle.records.specs.Phone.{Trust, Phone, decode}
-use Rattle.records.specs.declared.Event.{Event}
+use Rattle.records.specs.{Phone.{Trust, Phone, decode}, declared.Event.Event}
 use Rattle.records.proofs.RoundTrip.{decode-encode}
-use Rattle.rules.specs.Chains.{most-links, links}
-use Rattle.rules.specs.Explicit.{Chain-within, Shortest}
-use Rattle.rules.specs.Codes.{executable-named, code-of, code}
-use Rattle.rules.specs.Effects.{changed}
-use Rattle.rules.specs.declared.Answer.{Answer}
-use Rattle.rules.specs.Step.{refused, refused-at, refusal, done, step}
-use Rattle.laws.proofs.Tests.{eq→eqb, or-i, or-j, or-cases}
-use Rattle.laws.proofs.Accepted.{Accepted}
-use Rattle.laws.proofs.Accepts.{accepted-out}
+use Rattle.rules.specs.{Chains.{most-links, links}, Explicit.{Chain-within, Shortest}, Codes.{executable-named, code-of, code}, Effects.changed}
+use Rattle.rules.specs.{declared.Answer.Answer, Step.{refused, refused-at, refusal, done, step}}
+use Rattle.laws.proofs.{Tests.{eq→eqb, or-i, or-j, or-cases}, Accepted.Accepted, Accepts.accepted-out}
 use Rattle.keeping.specs.OneEvent.{event-of, key-named, phone-after}
 use Rattle.keeping.proofs.Heard.{heard, verify-domain, domain-exact, none-links, counted}
 use Rattle.keeping.proofs.Bytes.{refusal-cases, Whole, code-whole-out, step-done, step-cases}

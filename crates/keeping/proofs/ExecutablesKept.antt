@@ -1,34 +1,18 @@
 -- Every event keeps the image rule I7 of the executables, and settling makes I8 hold. Assumes nothing.
 use Prim.Native.Nat.{ℕ, _≤_, _<_}
-use mathlib.Core.Bool.{Bool, true, false, cond, not}
-use mathlib.Core.List.{List, map, List·Memᴰ, Memᴰ·of-map}
-use mathlib.Core.Logic.{_≢_, _⊎_, inl, inr}
+use mathlib.Core.{Bool.{Bool, true, false, cond, not}, List.{List, map, List·Memᴰ, Memᴰ·of-map}, Logic.{_≢_, _⊎_, inl, inr}}
 use mathlib.Core.Path.{_≡_, refl, subst, sym, ap, _∙_}
 use native.Mathlib.Omega.{arith}
-use lib.Dec.{T, eqb, eqb→eq}
-use lib.ListN.{length}
-use lib.Pow.{pow-pos}
+use lib.{Dec.{T, eqb, eqb→eq}, ListN.length, Pow.pow-pos}
 use Rattle.bits.specs.Bits.{put-digit}
 use Rattle.bits.proofs.BitLaws.{put-digit-small}
-use Rattle.records.specs.Phone.{Trust, Phone, no-executable, in-domain, permitted}
-use Rattle.records.specs.declared.Executable.{Executable}
-use Rattle.records.specs.declared.Event.{Event}
-use Rattle.rules.specs.Words.{at, change, fill, distinct}
-use Rattle.rules.specs.Chains.{chains-to, chain-of}
-use Rattle.rules.specs.ImageRules.{free-executable, chained-fits}
-use Rattle.rules.specs.Forms.{with-kind, executable-form}
-use Rattle.rules.specs.Codes.{is-executable, executable-known, id-taken}
-use Rattle.rules.specs.Effects.{card-in, card-out, power-up}
-use Rattle.rules.specs.Effects.{new-executable, install-executable, effect, settled, settle}
-use Rattle.laws.proofs.Tests.{tests, eq→eqb, neqb→ne, nor-l, nor-r}
-use Rattle.laws.proofs.Lists.{none-out, fill-out}
-use Rattle.laws.proofs.Distinct.{distinct-map, distinct-fill}
-use Rattle.laws.proofs.Changes.{at-cases}
-use Rattle.laws.proofs.Domain.{chain-small}
-use Rattle.laws.proofs.Accepts.{chained-out}
-use Rattle.laws.proofs.Accepted.{Stored}
-use Rattle.keeping.proofs.ByKind.{the-effects, by-kind}
-use Rattle.keeping.proofs.Unrefused.{Unrefused, id-formed, action-formed}
+use Rattle.records.specs.{Phone.{Trust, Phone, no-executable, in-domain, permitted}, declared.Executable.Executable, declared.Event.Event}
+use Rattle.rules.specs.{Words.{at, change, fill, distinct}, Chains.{chains-to, chain-of}, ImageRules.{free-executable, chained-fits}}
+use Rattle.rules.specs.{Forms.{with-kind, executable-form}, Codes.{is-executable, executable-known, id-taken}}
+use Rattle.rules.specs.Effects.{card-in, card-out, power-up, new-executable, install-executable, effect, settled, settle}
+use Rattle.laws.proofs.{Tests.{tests, eq→eqb, neqb→ne, nor-l, nor-r}, Lists.{none-out, fill-out}, Distinct.{distinct-map, distinct-fill}, Changes.at-cases}
+use Rattle.laws.proofs.{Domain.chain-small, Accepts.chained-out, Accepted.Stored}
+use Rattle.keeping.proofs.{ByKind.{the-effects, by-kind}, Unrefused.{Unrefused, id-formed, action-formed}}
 
 -- I7, for n actions
 pub record Executables (n : ℕ) (l : List Executable) : Type 0 where

@@ -1,26 +1,19 @@
 -- The frame's test, I1: what it says of a phone that fits its image, and that the image of such a phone passes it. Assumes nothing.
 use Prim.Native.Nat.{ℕ, _≤_}
-use mathlib.Core.Bool.{true}
-use mathlib.Core.List.{List}
-use mathlib.Core.Path.{_≡_, refl}
+use mathlib.Core.{Bool.true, List.List, Path.{_≡_, refl}}
 use native.Mathlib.Omega.{arith}
 use borrow.Author.Tests.{le-leb, eq-eqb}
-use lib.Dec.{leb→le}
-use lib.ListN.{length}
+use lib.{Dec.leb→le, ListN.length}
 use Rattle.octets.specs.Octets.{be}
 use Rattle.octets.proofs.ByteLaws.{join}
 use Rattle.records.specs.Sizes.{header-size, image-version, most-certificates, most-cards, most-executables, most-actions, certificates-start, image-end}
-use Rattle.records.specs.Phone.{Phone, version, certificate-slots, card-count, executable-slots, action-count, standing-mode, header-zero}
-use Rattle.records.specs.Phone.{certificates-at, cards-at, executables-at, table-at, total-length, cards-from, executables-from, table-from}
-use Rattle.records.specs.Phone.{ends-at, header-of, decode, encode}
+use Rattle.records.specs.Phone.{Phone, version, certificate-slots, card-count, executable-slots, action-count, standing-mode, header-zero, certificates-at}
+use Rattle.records.specs.Phone.{cards-at, executables-at, table-at, total-length, cards-from, executables-from, table-from, ends-at, header-of, decode, encode}
 use Rattle.records.specs.Frame.{header-fits, framed, Sized}
 use Rattle.records.proofs.ImageParts.{certificate-slots-encode, card-count-encode, executable-slots-encode, action-count-encode, standing-mode-encode}
 use Rattle.records.proofs.ImageParts.{cards-at-encode, executables-at-encode, table-at-encode}
-use Rattle.records.proofs.Said.{length-certificates, length-cards, length-executables, length-table}
-use Rattle.records.proofs.FrameFacts.{fields}
-use Rattle.records.proofs.RoundTrip.{length-encode}
-use Rattle.laws.proofs.Tests.{and-l, and-r}
-use Rattle.laws.proofs.Accepts.{true-T}
+use Rattle.records.proofs.{Said.{length-certificates, length-cards, length-executables, length-table}, FrameFacts.fields, RoundTrip.length-encode}
+use Rattle.laws.proofs.{Tests.{and-l, and-r}, Accepts.true-T}
 
 -- ---- what the test says
 

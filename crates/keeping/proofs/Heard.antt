@@ -1,28 +1,16 @@
 -- What a verify and a request find: the executable named keeps its key, its domain is a chain's, and the count that of a shortest one. Assumes nothing.
 use Prim.Native.Nat.{ℕ, _≤_}
-use mathlib.Core.Bool.{Bool, true, false, cond, not, _&&_, _||_}
-use mathlib.Core.List.{List, [], _∷_, map, List·Memᴰ}
-use mathlib.Core.Logic.{_≢_, _⊎_, inl, inr, _↔_}
+use mathlib.Core.{Bool.{Bool, true, false, cond, not, _&&_, _||_}, List.{List, [], _∷_, map, List·Memᴰ}, Logic.{_≢_, _⊎_, inl, inr, _↔_}}
 use mathlib.Core.Path.{_≡_, refl, subst, sym, ap, _∙_}
 use native.Mathlib.Omega.{arith}
 use lib.Dec.{T, T-not, eqb}
-use Rattle.records.specs.Phone.{Trust, Phone, no-certificate, no-executable}
-use Rattle.records.specs.declared.Certificate.{Certificate}
-use Rattle.records.specs.declared.Event.{Event}
-use Rattle.rules.specs.Words.{between, any, at, find}
-use Rattle.rules.specs.Chains.{most-links, chains-to, chain-domain, links}
-use Rattle.rules.specs.Explicit.{Chain, ends, goes-on, Chain-within, Shortest}
-use Rattle.rules.specs.Codes.{is-executable, executable-named, executable-known, id-unknown, code-of}
+use Rattle.records.specs.{Phone.{Trust, Phone, no-certificate, no-executable}, declared.Certificate.Certificate, declared.Event.Event}
+use Rattle.rules.specs.{Words.{between, any, at, find}, Chains.{most-links, chains-to, chain-domain, links}}
+use Rattle.rules.specs.{Explicit.{Chain, ends, goes-on, Chain-within, Shortest}, Codes.{is-executable, executable-named, executable-known, id-unknown, code-of}}
 use Rattle.rules.specs.Effects.{changed}
-use Rattle.laws.proofs.Tests.{tests, nand, not-elim}
-use Rattle.laws.proofs.Lists.{find-in}
-use Rattle.laws.proofs.Accepted.{Occupied, Accepted}
-use Rattle.laws.proofs.Changes.{at-cases}
-use Rattle.laws.proofs.Shortest.{chains-signed, chains-chain, chain-chains, links-small, links-shortest, links-none}
-use Rattle.laws.proofs.Domain.{chain-domain-is, chain-found}
-use Rattle.keeping.proofs.Unrefused.{unrefused}
-use Rattle.keeping.proofs.Naming.{known-executable}
-use Rattle.keeping.proofs.Settle.{request-changed}
+use Rattle.laws.proofs.{Tests.{tests, nand, not-elim}, Lists.find-in, Accepted.{Occupied, Accepted}, Changes.at-cases}
+use Rattle.laws.proofs.{Shortest.{chains-signed, chains-chain, chain-chains, links-small, links-shortest, links-none}, Domain.{chain-domain-is, chain-found}}
+use Rattle.keeping.proofs.{Unrefused.unrefused, Naming.known-executable, Settle.request-changed}
 use Rattle.keeping.proofs.Verified.{verdict, one-verified, verdict-chains, verify-changed}
 
 -- ---- the executable named

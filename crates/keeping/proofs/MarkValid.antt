@@ -1,23 +1,13 @@
 -- Marking a root valid, where no other stands in its way, keeps the image rules I2 to I5. Assumes nothing.
 use Prim.Native.Nat.{ℕ}
-use mathlib.Core.Bool.{Bool, true, false, cond, not, _&&_}
-use mathlib.Core.List.{List, map, List·Memᴰ, Memᴰ·of-map}
-use mathlib.Core.Logic.{_≢_, _⊎_, inl, inr}
+use mathlib.Core.{Bool.{Bool, true, false, cond, not, _&&_}, List.{List, map, List·Memᴰ, Memᴰ·of-map}, Logic.{_≢_, _⊎_, inl, inr}}
 use mathlib.Core.Path.{_≡_, subst, sym, ap, _∙_}
 use native.Mathlib.Omega.{arith}
 use lib.Dec.{T, eqb, T-not, eqb→eq}
-use Rattle.records.specs.Phone.{Seen, Trust, marked}
-use Rattle.records.specs.declared.Certificate.{Certificate}
-use Rattle.records.specs.declared.Card.{Card}
-use Rattle.rules.specs.Chains.{present}
-use Rattle.rules.specs.ImageRules.{operator-of}
-use Rattle.rules.specs.Codes.{has-id, rival}
-use Rattle.rules.specs.Effects.{phone-operator-root, on-a-card, after-marking}
-use Rattle.laws.proofs.Tests.{tests, neqb→ne, nand, by-test}
-use Rattle.laws.proofs.Roots.{Like, valid-root-of, valid-kind, valid-domain, valid-mark}
-use Rattle.laws.proofs.Accepted.{Valid, Kept}
-use Rattle.keeping.proofs.CertificateChanges.{holding}
-use Rattle.keeping.proofs.CertificateMaps.{Slot, like-refl, like-marked, held-map, marked-fits}
+use Rattle.records.specs.{Phone.{Seen, Trust, marked}, declared.Certificate.Certificate, declared.Card.Card}
+use Rattle.rules.specs.{Chains.present, ImageRules.operator-of, Codes.{has-id, rival}, Effects.{phone-operator-root, on-a-card, after-marking}}
+use Rattle.laws.proofs.{Tests.{tests, neqb→ne, nand, by-test}, Roots.{Like, valid-root-of, valid-kind, valid-domain, valid-mark}, Accepted.{Valid, Kept}}
+use Rattle.keeping.proofs.{CertificateChanges.holding, CertificateMaps.{Slot, like-refl, like-marked, held-map, marked-fits}}
 
 -- ---- who is a rival of r
 

@@ -1,19 +1,11 @@
 -- The record that an id names: it is stored under that id, and no other is. Assumes nothing.
 use Prim.Native.Nat.{ℕ, _≤_}
-use mathlib.Core.List.{List, List·Memᴰ}
-use mathlib.Core.Logic.{_≢_, _⊎_, inl, inr}
-use mathlib.Core.Path.{_≡_, sym, ap, _∙_}
+use mathlib.Core.{List.{List, List·Memᴰ}, Logic.{_≢_, _⊎_, inl, inr}, Path.{_≡_, sym, ap, _∙_}}
 use native.Mathlib.Omega.{arith}
-use lib.Dec.{T, eqb→eq}
-use lib.ListN.{length}
-use Rattle.records.specs.Phone.{Phone, no-certificate, no-executable}
-use Rattle.records.specs.declared.Certificate.{Certificate}
-use Rattle.records.specs.declared.Executable.{Executable}
+use lib.{Dec.{T, eqb→eq}, ListN.length}
+use Rattle.records.specs.{Phone.{Phone, no-certificate, no-executable}, declared.Certificate.Certificate, declared.Executable.Executable}
 use Rattle.rules.specs.Codes.{has-id, certificate-named, certificate-known, is-executable, executable-named, executable-known}
-use Rattle.laws.proofs.Tests.{eq→eqb}
-use Rattle.laws.proofs.Lists.{any-in, find-in}
-use Rattle.laws.proofs.Distinct.{alone}
-use Rattle.laws.proofs.Accepted.{Held, Accepted, Stored}
+use Rattle.laws.proofs.{Tests.eq→eqb, Lists.{any-in, find-in}, Distinct.alone, Accepted.{Held, Accepted, Stored}}
 
 -- ---- a certificate
 

@@ -1,25 +1,14 @@
 -- What a change of the slots does to the order, whatever event makes it. Assumes nothing.
 use Prim.Native.Nat.{ℕ}
-use mathlib.Core.Bool.{Bool, true, false, cond, not, _&&_}
-use mathlib.Core.List.{List, map, List·Memᴰ, Memᴰ·map, Memᴰ·of-map}
-use mathlib.Core.Logic.{_≢_, _⊎_, inl, inr}
+use mathlib.Core.{Bool.{Bool, true, false, cond, not, _&&_}, List.{List, map, List·Memᴰ, Memᴰ·map, Memᴰ·of-map}, Logic.{_≢_, _⊎_, inl, inr}}
 use mathlib.Core.Path.{_≡_, refl, subst, sym, ap, _∙_}
 use lib.Dec.{T, eqb→eq}
-use Rattle.records.specs.Phone.{Seen, Trust, Phone, no-certificate, marked, enabling, with-certificates, with-executables}
-use Rattle.records.specs.declared.Certificate.{Certificate}
+use Rattle.records.specs.{Phone.{Seen, Trust, Phone, no-certificate, marked, enabling, with-certificates, with-executables}, declared.Certificate.Certificate}
 use Rattle.records.specs.declared.Executable.{Executable}
-use Rattle.rules.specs.Chains.{trusted-root, link}
-use Rattle.rules.specs.Words.{fill}
-use Rattle.rules.specs.ImageRules.{free-certificate}
-use Rattle.rules.specs.Codes.{has-id}
-use Rattle.rules.specs.Effects.{phone-operator-root, on-a-card, after-marking}
-use Rattle.laws.proofs.Tests.{by-test}
-use Rattle.laws.proofs.Lists.{any-in, fill-keeps, fill-has}
-use Rattle.laws.proofs.Accepted.{Occupied, Accepted}
-use Rattle.laws.proofs.Roots.{Like}
-use Rattle.rules.specs.Explicit.{Root, Issued}
-use Rattle.keeping.proofs.CertificateMaps.{like-refl}
-use Rattle.keeping.proofs.Order.{Fewer, Below, Over, Under, fewer-refl, over-itself}
+use Rattle.rules.specs.{Chains.{trusted-root, link}, Words.fill, ImageRules.free-certificate, Codes.has-id}
+use Rattle.rules.specs.{Effects.{phone-operator-root, on-a-card, after-marking}, Explicit.{Root, Issued}}
+use Rattle.laws.proofs.{Tests.by-test, Lists.{any-in, fill-keeps, fill-has}, Accepted.{Occupied, Accepted}, Roots.Like}
+use Rattle.keeping.proofs.{CertificateMaps.like-refl, Order.{Fewer, Below, Over, Under, fewer-refl, over-itself}}
 use Rattle.keeping.proofs.Unharmed.{free-untrusted, free-no-link, like-but-marks, like-trusted, like-link, Wider, wider-trusted, wider-link}
 
 -- ---- one certificate

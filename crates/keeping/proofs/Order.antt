@@ -1,16 +1,10 @@
 -- An order between phones: the lower one trusts no key, holds no executable and has no permission that the higher one lacks. Assumes nothing.
 use Prim.Native.Nat.{ℕ}
-use mathlib.Core.List.{List·Memᴰ}
-use mathlib.Core.Logic.{_≢_, _⊎_, inl, inr}
-use mathlib.Core.Path.{_≡_, refl, _∙_}
+use mathlib.Core.{List.List·Memᴰ, Logic.{_≢_, _⊎_, inl, inr}, Path.{_≡_, refl, _∙_}}
 use lib.Dec.{T}
-use Rattle.records.specs.Phone.{Trust, Phone}
-use Rattle.records.specs.declared.Executable.{Executable}
-use Rattle.rules.specs.Chains.{chains-to}
-use Rattle.rules.specs.Codes.{has-permission}
-use Rattle.rules.specs.Explicit.{Root, Issued}
-use Rattle.laws.proofs.Keys.{Key, by-root, by-issued}
-use Rattle.laws.proofs.Shortest.{chains-key, chains-signed, key-chains}
+use Rattle.records.specs.{Phone.{Trust, Phone}, declared.Executable.Executable}
+use Rattle.rules.specs.{Chains.chains-to, Codes.has-permission, Explicit.{Root, Issued}}
+use Rattle.laws.proofs.{Keys.{Key, by-root, by-issued}, Shortest.{chains-key, chains-signed, key-chains}}
 
 -- ---- keys
 

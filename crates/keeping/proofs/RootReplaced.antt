@@ -1,25 +1,11 @@
 -- A root that is replaced, where no other stands in its way, keeps the image rules I2 to I5. Assumes nothing.
-use mathlib.Core.Bool.{not, _&&_}
-use mathlib.Core.List.{List, List·Memᴰ, Memᴰ·of-map}
-use mathlib.Core.Logic.{_≢_, _⊎_, inl, inr}
-use mathlib.Core.Path.{_≡_, refl, subst, sym, ap, _∙_}
+use mathlib.Core.{Bool.{not, _&&_}, List.{List, List·Memᴰ, Memᴰ·of-map}, Logic.{_≢_, _⊎_, inl, inr}, Path.{_≡_, refl, subst, sym, ap, _∙_}}
 use native.Mathlib.Omega.{arith}
 use lib.Dec.{T, eqb→eq}
-use Rattle.records.specs.Phone.{Trust}
-use Rattle.records.specs.declared.Certificate.{Certificate}
-use Rattle.records.specs.declared.Card.{Card}
-use Rattle.records.specs.declared.Event.{Event}
-use Rattle.rules.specs.Words.{at, change}
-use Rattle.rules.specs.ImageRules.{known-place, operator-of}
-use Rattle.rules.specs.Codes.{has-id}
-use Rattle.rules.specs.Effects.{phone-operator-root, on-a-card, replaced}
-use Rattle.laws.proofs.Tests.{tests, neqb→ne}
-use Rattle.laws.proofs.Distinct.{distinct-map}
-use Rattle.laws.proofs.Changes.{at-cases}
-use Rattle.laws.proofs.Accepted.{Occupied, Held, Kept}
-use Rattle.keeping.proofs.Done.{nand-i}
-use Rattle.keeping.proofs.CertificateChanges.{holding}
-use Rattle.keeping.proofs.CertificateMaps.{Slot}
+use Rattle.records.specs.{Phone.Trust, declared.Certificate.Certificate, declared.Card.Card, declared.Event.Event}
+use Rattle.rules.specs.{Words.{at, change}, ImageRules.{known-place, operator-of}, Codes.has-id, Effects.{phone-operator-root, on-a-card, replaced}}
+use Rattle.laws.proofs.{Tests.{tests, neqb→ne}, Distinct.distinct-map, Changes.at-cases, Accepted.{Occupied, Held, Kept}}
+use Rattle.keeping.proofs.{Done.nand-i, CertificateChanges.holding, CertificateMaps.Slot}
 use Rattle.keeping.proofs.MarkValid.{Clear, Origin, chosen, left, each, maker, both, mine}
 
 -- what an event that is done says of the root r that it replaces

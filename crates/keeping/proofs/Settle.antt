@@ -1,20 +1,11 @@
 -- Settling in the order: it takes domains and gives none, and takes nothing from an executable whose chain stands. Assumes nothing.
-use mathlib.Core.Bool.{not}
-use mathlib.Core.List.{List, [], _∷_, map, List·Memᴰ, List·Memᴰ·head, List·Memᴰ·tail, Memᴰ·map}
-use mathlib.Core.Logic.{_≢_, _⊎_, inl, inr}
+use mathlib.Core.{Bool.not, List.{List, [], _∷_, map, List·Memᴰ, List·Memᴰ·head, List·Memᴰ·tail, Memᴰ·map}, Logic.{_≢_, _⊎_, inl, inr}}
 use mathlib.Core.Path.{_≡_, refl, subst, subst₂, sym, ap, _∙_}
 use lib.Dec.{T, T-not}
-use Rattle.records.specs.Phone.{Phone, with-executables}
-use Rattle.records.specs.declared.Executable.{Executable}
-use Rattle.records.specs.declared.Event.{Event}
-use Rattle.rules.specs.Chains.{chains-to}
-use Rattle.rules.specs.Forms.{with-kind}
-use Rattle.rules.specs.Effects.{request, effect, settled, settle, changed}
+use Rattle.records.specs.{Phone.{Phone, with-executables}, declared.Executable.Executable, declared.Event.Event}
+use Rattle.rules.specs.{Chains.chains-to, Forms.with-kind, Effects.{request, effect, settled, settle, changed}}
 use Rattle.laws.proofs.Accepted.{Accepted}
-use Rattle.keeping.proofs.After.{after}
-use Rattle.keeping.proofs.ExecutablesKept.{settled-cases}
-use Rattle.keeping.proofs.Done.{after-cases}
-use Rattle.keeping.proofs.Order.{Below, Over, Under, fewer-chains, below-refl}
+use Rattle.keeping.proofs.{After.after, ExecutablesKept.settled-cases, Done.after-cases, Order.{Below, Over, Under, fewer-chains, below-refl}}
 use Rattle.keeping.proofs.Narrowing.{under-map}
 
 pub under-settle : (p : Phone) → Under (settle p) p

@@ -1,22 +1,13 @@
 -- What no event changes: the cards, the table, the number of slots, and that the standing mode is one. Assumes nothing.
 use Prim.Native.Nat.{ℕ, zero, suc, _≤_}
-use mathlib.Core.Bool.{Bool, true, false, cond}
-use mathlib.Core.List.{List, [], _∷_}
-use mathlib.Core.Path.{_≡_, refl, _∙_}
-use lib.Dec.{T, eqb, leb→le}
-use lib.ListN.{length, getD, length-map}
-use Rattle.records.specs.Phone.{Trust, Phone, with-trust, with-executables}
-use Rattle.records.specs.Frame.{Sized}
-use Rattle.records.specs.declared.Executable.{Executable}
-use Rattle.records.specs.declared.Event.{Event}
-use Rattle.rules.specs.Forms.{with-kind, message-form}
-use Rattle.rules.specs.Codes.{code-of}
+use mathlib.Core.{Bool.{Bool, true, false, cond}, List.{List, [], _∷_}, Path.{_≡_, refl, _∙_}}
+use lib.{Dec.{T, eqb, leb→le}, ListN.{length, getD, length-map}}
+use Rattle.records.specs.{Phone.{Trust, Phone, with-trust, with-executables}, Frame.Sized, declared.Executable.Executable, declared.Event.Event}
+use Rattle.rules.specs.{Forms.{with-kind, message-form}, Codes.code-of}
 use Rattle.rules.specs.Effects.{card-rule, tick, card-in, card-out, power-up, install-certificate, delete-certificate, mark-valid, mark-invalid, message}
 use Rattle.rules.specs.Effects.{install-executable, delete-executable, verify, permit, request, replace, effects, effect, settle, changed}
-use Rattle.laws.proofs.Tests.{tests}
-use Rattle.laws.proofs.Changes.{length-fill}
-use Rattle.keeping.proofs.ByKind.{the-effects, by-kind}
-use Rattle.keeping.proofs.Unrefused.{Unrefused, unrefused}
+use Rattle.laws.proofs.{Tests.tests, Changes.length-fill}
+use Rattle.keeping.proofs.{ByKind.{the-effects, by-kind}, Unrefused.{Unrefused, unrefused}}
 
 pub record Shape (q p : Phone) : Type 0 where
   pub cards : q .cards ≡ p .cards

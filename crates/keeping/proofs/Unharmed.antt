@@ -1,18 +1,11 @@
 -- What makes a root trusted and an issued record a link, and what may change without harm: all that demand 3 knows of the two. Assumes nothing.
 use Prim.Native.Nat.{ℕ, _≤_}
-use mathlib.Core.Bool.{_||_}
-use mathlib.Core.Logic.{_⊎_, inl, inr}
-use mathlib.Core.Path.{_≡_, refl, subst, sym, _∙_}
-use native.Mathlib.Omega.{arith}
-use native.Mathlib.Nat.{le-trans}
+use mathlib.Core.{Bool._||_, Logic.{_⊎_, inl, inr}, Path.{_≡_, refl, subst, sym, _∙_}}
+use native.{Mathlib.Omega.arith, Mathlib.Nat.le-trans}
 use lib.Dec.{T, eqb, leb, leb→le, le→leb, eqb→eq}
-use Rattle.records.specs.Phone.{Seen, no-certificate, marked, enabling}
-use Rattle.records.specs.declared.Certificate.{Certificate}
-use Rattle.rules.specs.Chains.{present, in-date, valid-root, trusted-root, link}
-use Rattle.rules.specs.ImageRules.{valid-in}
-use Rattle.laws.proofs.Tests.{tests, or-cases}
-use Rattle.laws.proofs.Accepted.{Valid}
-use Rattle.laws.proofs.Roots.{Like, valid-root-of, valid-mark, valid-earlier, valid-like}
+use Rattle.records.specs.{Phone.{Seen, no-certificate, marked, enabling}, declared.Certificate.Certificate}
+use Rattle.rules.specs.{Chains.{present, in-date, valid-root, trusted-root, link}, ImageRules.valid-in}
+use Rattle.laws.proofs.{Tests.{tests, or-cases}, Accepted.Valid, Roots.{Like, valid-root-of, valid-mark, valid-earlier, valid-like}}
 
 -- ---- the tests, part by part
 

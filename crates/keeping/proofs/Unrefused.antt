@@ -1,18 +1,12 @@
 -- What a code 0 says of the phone and the event. Assumes nothing.
 use Prim.Native.Nat.{_<_}
-use mathlib.Core.Bool.{not, _&&_}
-use mathlib.Core.Logic.{_≢_}
-use mathlib.Core.Path.{_≡_}
-use lib.Dec.{T, eqb, leb, ltb→lt}
-use lib.ListN.{getD, length}
-use Rattle.records.specs.Phone.{Phone}
-use Rattle.records.specs.declared.Certificate.{Certificate}
-use Rattle.records.specs.declared.Event.{Event}
+use mathlib.Core.{Bool.{not, _&&_}, Logic._≢_, Path._≡_}
+use lib.{Dec.{T, eqb, leb, ltb→lt}, ListN.{getD, length}}
+use Rattle.records.specs.{Phone.Phone, declared.Certificate.Certificate, declared.Event.Event}
 use Rattle.rules.specs.Forms.{forms, no-form, malformed, owned-form, id-form, action-form, replace-form}
-use Rattle.rules.specs.Codes.{refusals, code-of}
-use Rattle.rules.specs.Codes.{id-unknown, actor-barred, time-back, card-unknown, card-wrong, card-away, id-taken, key-elsewhere}
-use Rattle.rules.specs.Codes.{install-of-other, mark-of-other, no-such-root, another-valid, no-free-slot, never, not-permitted}
-use Rattle.rules.specs.Codes.{may-replace, cannot-replace, out-of-date}
+use Rattle.rules.specs.Codes.{refusals, code-of, id-unknown, actor-barred, time-back, card-unknown, card-wrong, card-away, id-taken, key-elsewhere}
+use Rattle.rules.specs.Codes.{install-of-other, mark-of-other, no-such-root, another-valid, no-free-slot, never, not-permitted, may-replace, cannot-replace}
+use Rattle.rules.specs.Codes.{out-of-date}
 use Rattle.laws.proofs.Tests.{tests, and-r, not-elim, first-out}
 
 -- no refusal applied

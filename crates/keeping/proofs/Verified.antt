@@ -1,30 +1,15 @@
 -- Every executable verified: a run of verify events, what it comes to, and that it keeps the order. Assumes nothing.
 use Prim.Native.Nat.{ℕ}
-use mathlib.Core.Bool.{Bool, true, false, cond, not, _||_}
-use mathlib.Core.List.{List, [], _∷_, map, List·Memᴰ, List·Memᴰ·head, List·Memᴰ·tail, Memᴰ·map, Memᴰ·of-map}
-use mathlib.Core.Logic.{_≢_, _⊎_, inl, inr}
-use mathlib.Core.Path.{_≡_, refl, subst, subst₂, sym, ap, _∙_}
-use lib.Dec.{T, T-not, eqb, eqb-refl, eqb→eq}
-use lib.ListN.{length}
-use Rattle.records.specs.Phone.{Trust, Phone, no-executable, with-executables, in-domain}
-use Rattle.records.specs.declared.Executable.{Executable}
-use Rattle.records.specs.declared.Event.{Event}
-use Rattle.rules.specs.Words.{any, at}
-use Rattle.rules.specs.Chains.{chains-to, chain-domain, chain-of}
-use Rattle.rules.specs.Forms.{with-kind, id-form}
-use Rattle.rules.specs.Codes.{is-executable, executable-known, code-of}
-use Rattle.rules.specs.Effects.{verify, effect, settle, changed}
-use Rattle.rules.specs.Demands.{verify-event}
-use Rattle.laws.proofs.Tests.{tests, by-test, neqb→ne, not-intro}
-use Rattle.laws.proofs.Lists.{any-in}
-use Rattle.laws.proofs.Changes.{at-cases}
-use Rattle.laws.proofs.Accepted.{Stored, Accepted}
-use Rattle.keeping.proofs.After.{after, after-all}
-use Rattle.keeping.proofs.AcceptedKept.{accepted-after, accepted-after-all}
-use Rattle.laws.proofs.Shortest.{chains-signed}
+use mathlib.Core.{Bool.{Bool, true, false, cond, not, _||_}, List.{List, [], _∷_, map, List·Memᴰ, List·Memᴰ·head, List·Memᴰ·tail, Memᴰ·map, Memᴰ·of-map}}
+use mathlib.Core.{Logic.{_≢_, _⊎_, inl, inr}, Path.{_≡_, refl, subst, subst₂, sym, ap, _∙_}}
+use lib.{Dec.{T, T-not, eqb, eqb-refl, eqb→eq}, ListN.length}
+use Rattle.records.specs.{Phone.{Trust, Phone, no-executable, with-executables, in-domain}, declared.Executable.Executable, declared.Event.Event}
+use Rattle.rules.specs.{Words.{any, at}, Chains.{chains-to, chain-domain, chain-of}, Forms.{with-kind, id-form}}
+use Rattle.rules.specs.{Codes.{is-executable, executable-known, code-of}, Effects.{verify, effect, settle, changed}, Demands.verify-event}
+use Rattle.laws.proofs.{Tests.{tests, by-test, neqb→ne, not-intro}, Lists.any-in, Changes.at-cases, Accepted.{Stored, Accepted}, Shortest.chains-signed}
 use Rattle.laws.proofs.Domain.{KeysApart, chain-domain-is, chain-found, chain-small}
-use Rattle.keeping.proofs.Done.{the-tests, unrefused-done, after-cases, nor-i}
-use Rattle.keeping.proofs.Order.{Fewer, Below, Over, Under, fewer-chains}
+use Rattle.keeping.proofs.{After.{after, after-all}, AcceptedKept.{accepted-after, accepted-after-all}}
+use Rattle.keeping.proofs.{Done.{the-tests, unrefused-done, after-cases, nor-i}, Order.{Fewer, Below, Over, Under, fewer-chains}}
 use Rattle.keeping.proofs.Settle.{map-id, settle-still}
 
 -- each executable slot's number is told once, in order

@@ -1,11 +1,8 @@
 -- One event on the bytes of an image: what its bytes say, the key that it names and the phone after it. Definitions only.
 use Prim.Native.Nat.{ℕ}
 use mathlib.Core.List.{List}
-use Rattle.records.specs.Layout.{event-read}
-use Rattle.records.specs.Phone.{Phone, decode}
-use Rattle.records.specs.declared.Event.{Event}
-use Rattle.rules.specs.Codes.{executable-named}
-use Rattle.rules.specs.Step.{step}
+use Rattle.records.specs.{Layout.event-read, Phone.{Phone, decode}, declared.Event.Event}
+use Rattle.rules.specs.{Codes.executable-named, Step.step}
 
 -- what an event's bytes say
 abbrev pub event-of : List ℕ → Event

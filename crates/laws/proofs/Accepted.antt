@@ -1,18 +1,10 @@
 -- The image rules I2 to I8 as propositions: what the tests of specs/ImageRules.antt are worth. Definitions only; `Accepts` joins the two.
 use Prim.Native.Nat.{ℕ, _≤_, _<_, _^_}
-use mathlib.Core.List.{List, map, List·Memᴰ}
-use mathlib.Core.Logic.{_≢_, _⊎_}
-use mathlib.Core.Path.{_≡_}
-use lib.Dec.{T}
-use lib.ListN.{length}
-use Rattle.records.specs.Phone.{Seen, Trust, Phone, no-certificate, no-executable}
-use Rattle.records.specs.declared.Certificate.{Certificate}
-use Rattle.records.specs.declared.Card.{Card}
-use Rattle.records.specs.declared.Executable.{Executable}
-use Rattle.records.specs.declared.Row.{Row}
-use Rattle.rules.specs.Words.{distinct}
-use Rattle.rules.specs.Chains.{chains-to}
-use Rattle.rules.specs.ImageRules.{known-place, operator-of, valid-in, row-fits}
+use mathlib.Core.{List.{List, map, List·Memᴰ}, Logic.{_≢_, _⊎_}, Path._≡_}
+use lib.{Dec.T, ListN.length}
+use Rattle.records.specs.{Phone.{Seen, Trust, Phone, no-certificate, no-executable}, declared.Certificate.Certificate, declared.Card.Card}
+use Rattle.records.specs.{declared.Executable.Executable, declared.Row.Row}
+use Rattle.rules.specs.{Words.distinct, Chains.chains-to, ImageRules.{known-place, operator-of, valid-in, row-fits}}
 
 -- I2, an occupied slot
 pub record Occupied (c : Certificate) : Type 0 where

@@ -1,26 +1,17 @@
 -- The image rules as tests say what they say as propositions, for a phone and for bytes. Assumes nothing.
 use Prim.Native.Nat.{ℕ}
-use mathlib.Core.Bool.{Bool, true, false, not}
-use mathlib.Core.List.{List, _∷_}
-use mathlib.Core.Logic.{_≢_, _⊎_, inl, inr}
-use mathlib.Core.Path.{_≡_, refl, subst, sym}
-use lib.Dec.{T, eqb, eqb→eq}
-use lib.ListN.{length}
-use Rattle.records.specs.Phone.{Seen, Trust, Phone, decode}
-use Rattle.records.specs.Frame.{framed}
-use Rattle.records.specs.declared.Certificate.{Certificate}
-use Rattle.records.specs.declared.Executable.{Executable}
-use Rattle.rules.specs.Words.{all, all-pairs, Check, _⇒_}
-use Rattle.rules.specs.Chains.{chains-to}
-use Rattle.rules.specs.ImageRules.{slot-fits, card-fits, known-place, places-known, key-of-one-domain, card-owns}
-use Rattle.rules.specs.ImageRules.{one-in-place, not-both, owned-by-card, one-manufacturer, row-fits, executable-slot-fits, chained-fits}
-use Rattle.rules.specs.ImageRules.{i1, i2, i3, i4, i5, i6, i7, i8, cards-fit, phone-rules, broken, accepted}
+use mathlib.Core.{Bool.{Bool, true, false, not}, List.{List, _∷_}, Logic.{_≢_, _⊎_, inl, inr}, Path.{_≡_, refl, subst, sym}}
+use lib.{Dec.{T, eqb, eqb→eq}, ListN.length}
+use Rattle.records.specs.{Phone.{Seen, Trust, Phone, decode}, Frame.framed, declared.Certificate.Certificate, declared.Executable.Executable}
+use Rattle.rules.specs.{Words.{all, all-pairs, Check, _⇒_}, Chains.chains-to}
+use Rattle.rules.specs.ImageRules.{slot-fits, card-fits, known-place, places-known, key-of-one-domain, card-owns, one-in-place, not-both, owned-by-card}
+use Rattle.rules.specs.ImageRules.{one-manufacturer, row-fits, executable-slot-fits, chained-fits, i1, i2, i3, i4, i5, i6, i7, i8, cards-fit, phone-rules}
+use Rattle.rules.specs.ImageRules.{broken, accepted}
 use Rattle.laws.proofs.Tests.{tests, neqb→ne, and-i, or-j, or-cases, by-test, not-elim, not-intro, Passes, first-out, first-in}
-use Rattle.laws.proofs.Lists.{all-out, all-in, pairs-out, pairs-in}
-use Rattle.laws.proofs.Accepted.{Held, Single, Yielding, Kept, Accepted}
+use Rattle.laws.proofs.{Lists.{all-out, all-in, pairs-out, pairs-in}, Accepted.{Held, Single, Yielding, Kept, Accepted}}
 use Rattle.laws.proofs.Fits.{slot-out, slot-in, named-out, named-in, executable-out, executable-in}
-use Rattle.laws.proofs.Pairs.{key-out, key-in, owns-out, owns-in}
-use Rattle.laws.proofs.Pairs.{in-place-out, in-place-in, not-both-out, not-both-in, owned-out, owned-in, manufacturer-out, manufacturer-in}
+use Rattle.laws.proofs.Pairs.{key-out, key-in, owns-out, owns-in, in-place-out, in-place-in, not-both-out, not-both-in, owned-out, owned-in}
+use Rattle.laws.proofs.Pairs.{manufacturer-out, manufacturer-in}
 
 -- the tests of a phone
 pub record Ruled (p : Phone) : Type 0 where

@@ -1,10 +1,7 @@
 -- Slots changed where a test holds, and a slot filled: both ways of the test, and how many slots there are. Assumes nothing.
 use Prim.Native.Nat.{ℕ, zero, suc}
-use mathlib.Core.Bool.{Bool, true, false, cond, not}
-use mathlib.Core.List.{List, [], _∷_, map}
-use mathlib.Core.Path.{_≡_, refl, ap}
-use lib.Dec.{T}
-use lib.ListN.{length, getD}
+use mathlib.Core.{Bool.{Bool, true, false, cond, not}, List.{List, [], _∷_, map}, Path.{_≡_, refl, ap}}
+use lib.{Dec.T, ListN.{length, getD}}
 use Rattle.rules.specs.Words.{at, change, fill}
 
 -- a changed element beside the element before

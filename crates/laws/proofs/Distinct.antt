@@ -2,12 +2,10 @@
 use Prim.Native.Nat.{ℕ}
 use mathlib.Core.Bool.{Bool, true, false, cond, not, _||_}
 use mathlib.Core.List.{List, [], _∷_, map, List·Memᴰ, List·Memᴰ·head, List·Memᴰ·tail, List·Memᴰ·cases-cons, List·Memᴰ·not-nil, Memᴰ·map, Memᴰ·of-map}
-use mathlib.Core.Logic.{_≢_, _⊎_, inl, inr}
-use mathlib.Core.Path.{_≡_, refl, sym, ap, _∙_}
+use mathlib.Core.{Logic.{_≢_, _⊎_, inl, inr}, Path.{_≡_, refl, sym, ap, _∙_}}
 use lib.Dec.{T, eqb, T-not, eqb→eq}
 use Rattle.rules.specs.Words.{any, fill, distinct}
-use Rattle.laws.proofs.Tests.{tests, eq→eqb, or-cases, and-r, and-i, or-j, by-test, neqb→ne}
-use Rattle.laws.proofs.Lists.{any-in, none-in, fill-out}
+use Rattle.laws.proofs.{Tests.{tests, eq→eqb, or-cases, and-r, and-i, or-j, by-test, neqb→ne}, Lists.{any-in, none-in, fill-out}}
 
 module _ {A : Type 0} (i : A → ℕ) where
   -- one that is not 0 is not met again

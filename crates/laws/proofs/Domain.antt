@@ -1,17 +1,11 @@
 -- The domain that a key chains to: I4 makes it one, and `chain-domain` finds it. Assumes nothing.
 use Prim.Native.Nat.{ℕ, _≤_}
-use mathlib.Core.Bool.{Bool, true, false, cond, not}
-use mathlib.Core.List.{List·Memᴰ}
-use mathlib.Core.Logic.{_≢_, _⊎_, inl, inr}
-use mathlib.Core.Path.{_≡_, refl, subst, sym, _∙_}
+use mathlib.Core.{Bool.{Bool, true, false, cond, not}, List.List·Memᴰ, Logic.{_≢_, _⊎_, inl, inr}, Path.{_≡_, refl, subst, sym, _∙_}}
 use native.Mathlib.Omega.{arith}
 use lib.Dec.{T, T-not}
-use Rattle.records.specs.Phone.{Trust}
-use Rattle.records.specs.declared.Certificate.{Certificate}
-use Rattle.rules.specs.Words.{first}
-use Rattle.rules.specs.Chains.{chains-to, chain-domain}
-use Rattle.laws.proofs.Keys.{Key, by-root, by-issued}
-use Rattle.laws.proofs.Shortest.{chains-key, chains-signed}
+use Rattle.records.specs.{Phone.Trust, declared.Certificate.Certificate}
+use Rattle.rules.specs.{Words.first, Chains.{chains-to, chain-domain}}
+use Rattle.laws.proofs.{Keys.{Key, by-root, by-issued}, Shortest.{chains-key, chains-signed}}
 
 -- I4's rule on keys
 abbrev pub KeysApart : Trust → Type 0

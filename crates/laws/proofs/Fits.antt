@@ -1,18 +1,12 @@
 -- The tests of one record say what its proposition says. Assumes nothing.
 use Prim.Native.Nat.{ℕ, _+_, _≤_}
-use mathlib.Core.Bool.{_||_}
-use mathlib.Core.Logic.{_≢_, _⊎_, inl, inr}
-use mathlib.Core.Path.{_≡_, subst, sym}
+use mathlib.Core.{Bool._||_, Logic.{_≢_, _⊎_, inl, inr}, Path.{_≡_, subst, sym}}
 use native.Mathlib.Omega.{arith}
 use lib.Dec.{T, eqb, leb→le, le→leb, ltb→lt, lt→ltb, eqb→eq}
-use Rattle.records.specs.Phone.{no-certificate, no-executable}
-use Rattle.records.specs.declared.Certificate.{Certificate}
-use Rattle.records.specs.declared.Card.{Card}
-use Rattle.records.specs.declared.Executable.{Executable}
+use Rattle.records.specs.{Phone.{no-certificate, no-executable}, declared.Certificate.Certificate, declared.Card.Card, declared.Executable.Executable}
 use Rattle.rules.specs.Words.{_implies_, all-zero}
 use Rattle.rules.specs.ImageRules.{free-certificate, free-executable, zero-certificate, certificate-ranges, root-fits, issued-fits, recovery-fits}
-use Rattle.rules.specs.ImageRules.{certificate-fits, zero-executable, executable-fits}
-use Rattle.rules.specs.ImageRules.{slot-fits, card-fits, executable-slot-fits}
+use Rattle.rules.specs.ImageRules.{certificate-fits, zero-executable, executable-fits, slot-fits, card-fits, executable-slot-fits}
 use Rattle.laws.proofs.Tests.{tests, eq→eqb, neqb→ne, ne→neqb, and-i, or-i, or-cases, by-test, cond-no, yes-cond, no-cond, implies-out, implies-in}
 use Rattle.laws.proofs.Accepted.{Occupied, Named, Stored}
 

@@ -1,17 +1,10 @@
 -- The chains by keys: what is good within n links, said of a domain and a key. Assumes nothing.
 use Prim.Native.Nat.{ℕ, zero, suc}
-use mathlib.Core.Bool.{Bool, _&&_}
-use mathlib.Core.List.{List·Memᴰ}
-use mathlib.Core.Logic.{_≢_, _⊎_, inl, inr}
-use mathlib.Core.Path.{_≡_, refl}
+use mathlib.Core.{Bool.{Bool, _&&_}, List.List·Memᴰ, Logic.{_≢_, _⊎_, inl, inr}, Path.{_≡_, refl}}
 use lib.Dec.{T}
-use Rattle.records.specs.Phone.{Trust}
-use Rattle.records.specs.declared.Certificate.{Certificate}
-use Rattle.rules.specs.Words.{any}
-use Rattle.rules.specs.Explicit.{Root, Issued}
-use Rattle.rules.specs.Chains.{trusted-root, link, serves, good, within}
-use Rattle.laws.proofs.Tests.{tests, or-cases}
-use Rattle.laws.proofs.Lists.{any-out, any-in}
+use Rattle.records.specs.{Phone.Trust, declared.Certificate.Certificate}
+use Rattle.rules.specs.{Words.any, Explicit.{Root, Issued}, Chains.{trusted-root, link, serves, good, within}}
+use Rattle.laws.proofs.{Tests.{tests, or-cases}, Lists.{any-out, any-in}}
 
 -- the key k of domain d is that of a good record within n
 abbrev pub served : ℕ → Trust → ℕ → ℕ → Bool

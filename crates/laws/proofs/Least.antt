@@ -1,8 +1,6 @@
 -- What `least` finds: a number from 1 to n that passes, and no smaller one does. Assumes nothing.
 use Prim.Native.Nat.{ℕ, zero, suc, _≤_}
-use mathlib.Core.Bool.{Bool, true, false, cond, not}
-use mathlib.Core.Logic.{_≢_}
-use mathlib.Core.Path.{_≡_, refl, subst}
+use mathlib.Core.{Bool.{Bool, true, false, cond, not}, Logic._≢_, Path.{_≡_, refl, subst}}
 use native.Mathlib.Omega.{arith}
 use lib.Dec.{T, T-not, eqb, eqb→eq}
 use Rattle.rules.specs.Words.{least}

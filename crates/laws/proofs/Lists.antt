@@ -1,7 +1,6 @@
 -- Membership, and `any`, `map`, `fill` over it. Assumes nothing.
 use mathlib.Core.Bool.{Bool, true, false, cond, not, _||_}
-use mathlib.Core.List.{List, [], _∷_, List·Memᴰ, List·Memᴰ·head, List·Memᴰ·tail, List·Memᴰ·cases-cons, List·Memᴰ·not-nil}
-use mathlib.Core.Logic.{_⊎_, inl, inr}
+use mathlib.Core.{List.{List, [], _∷_, List·Memᴰ, List·Memᴰ·head, List·Memᴰ·tail, List·Memᴰ·cases-cons, List·Memᴰ·not-nil}, Logic.{_⊎_, inl, inr}}
 use mathlib.Core.Path.{_≡_, refl, subst, sym}
 use lib.Dec.{T, T-not, not-T}
 use Rattle.rules.specs.Words.{any, all, all-pairs, fill, find}

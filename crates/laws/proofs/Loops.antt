@@ -1,12 +1,8 @@
 -- What a loop over slots keeps: `any`, `all` and `find` of what is left of the list, from slot i on. Assumes nothing.
 use Prim.Native.Nat.{ℕ, _+_, _≤_, _<_}
-use mathlib.Core.Bool.{Bool, true, false, not, _||_}
-use mathlib.Core.List.{List, _∷_}
-use mathlib.Core.Path.{_≡_, sym, ap, subst, _∙_}
-use native.Mathlib.Numerals.{add-one}
-use native.Mathlib.Omega.{arith}
-use lib.ListN.{length, getD, drop, drop-of-length-le}
-use lib.Seq.{drop-cons}
+use mathlib.Core.{Bool.{Bool, true, false, not, _||_}, List.{List, _∷_}, Path.{_≡_, sym, ap, subst, _∙_}}
+use native.{Mathlib.Numerals.add-one, Mathlib.Omega.arith}
+use lib.{ListN.{length, getD, drop, drop-of-length-le}, Seq.drop-cons}
 use borrow.Author.Tests.{not-true, not-false}
 use Rattle.rules.specs.Words.{any, all, find}
 

@@ -1,16 +1,9 @@
 -- The lowest record that breaks a rule: how a loop finds it, what a rule of several parts makes of it, and what it is worth. Assumes nothing.
 use Prim.Native.Nat.{ℕ, zero, suc, _+_, _≤_, _<_}
-use mathlib.Core.Bool.{Bool, true, false, cond, not, _&&_}
-use mathlib.Core.List.{List, [], _∷_, _++_}
-use mathlib.Core.Path.{_≡_, refl, sym, ap, _∙_, subst}
-use native.Mathlib.Nat.{le-of-suc-le-suc}
-use native.Mathlib.Numerals.{add-one}
-use native.Mathlib.Omega.{arith}
-use native.Mathlib.Decide.{decLt}
+use mathlib.Core.{Bool.{Bool, true, false, cond, not, _&&_}, List.{List, [], _∷_, _++_}, Path.{_≡_, refl, sym, ap, _∙_, subst}}
+use native.{Mathlib.Nat.le-of-suc-le-suc, Mathlib.Numerals.add-one, Mathlib.Omega.arith, Mathlib.Decide.decLt}
 use borrow.Author.Tests.{not-true, not-false, lt-ltb, le-ltb}
-use lib.Dec.{ltb}
-use lib.ListN.{length, getD, take}
-use lib.Seq.{take-suc, take-all, take-length}
+use lib.{Dec.ltb, ListN.{length, getD, take}, Seq.{take-suc, take-all, take-length}}
 use Rattle.rules.specs.Faults.{first-number, lowest}
 
 -- ---- the first number that passes

@@ -1,27 +1,16 @@
 -- "No rule marks a key valid by itself", of the card rule and of every effect. Assumes nothing.
 use Prim.Native.Nat.{ℕ, zero, suc}
-use mathlib.Core.Bool.{Bool, true, false, cond, not, _&&_}
-use mathlib.Core.List.{List, [], _∷_, map}
-use mathlib.Core.Logic.{_⊎_, inl, inr}
-use mathlib.Core.Path.{_≡_, refl}
+use mathlib.Core.{Bool.{Bool, true, false, cond, not, _&&_}, List.{List, [], _∷_, map}, Logic.{_⊎_, inl, inr}, Path.{_≡_, refl}}
 use native.Mathlib.Omega.{arith}
 use borrow.Author.Tests.{not-true}
-use lib.Dec.{T, eqb, eqb→eq}
-use lib.ListN.{getD}
-use Rattle.records.specs.Phone.{Phone, no-certificate, certificate-at, with-card, marked, enabling}
-use Rattle.records.specs.declared.Certificate.{Certificate}
-use Rattle.records.specs.declared.Event.{Event}
-use Rattle.rules.specs.Words.{at, change}
-use Rattle.rules.specs.ImageRules.{free-certificate, third-party-root}
-use Rattle.rules.specs.Forms.{new-certificate}
+use lib.{Dec.{T, eqb, eqb→eq}, ListN.getD}
+use Rattle.records.specs.{Phone.{Phone, no-certificate, certificate-at, with-card, marked, enabling}, declared.Certificate.Certificate, declared.Event.Event}
+use Rattle.rules.specs.{Words.{at, change}, ImageRules.{free-certificate, third-party-root}, Forms.new-certificate}
 use Rattle.rules.specs.Codes.{has-id, makes-valid, certificate-named}
-use Rattle.rules.specs.Effects.{phone-operator-root, retired, card-rule, tick, card-in, card-out, power-up, install-certificate}
-use Rattle.rules.specs.Effects.{delete-certificate, on-a-card, after-marking, mark-valid, mark-invalid, enabled-by, message}
-use Rattle.rules.specs.Effects.{install-executable, delete-executable, verify, permit, request, replaced, replace}
-use Rattle.rules.specs.Effects.{effects, effect, settle, changed}
-use Rattle.laws.proofs.Tests.{by-test}
-use Rattle.laws.proofs.Accepts.{T-true}
-use Rattle.laws.proofs.Changes.{at-cases, map-at, change-at, fill-at}
+use Rattle.rules.specs.Effects.{phone-operator-root, retired, card-rule, tick, card-in, card-out, power-up, install-certificate, delete-certificate, on-a-card}
+use Rattle.rules.specs.Effects.{after-marking, mark-valid, mark-invalid, enabled-by, message, install-executable, delete-executable, verify, permit, request}
+use Rattle.rules.specs.Effects.{replaced, replace, effects, effect, settle, changed}
+use Rattle.laws.proofs.{Tests.by-test, Accepts.T-true, Changes.{at-cases, map-at, change-at, fill-at}}
 
 -- every certificate changed by f
 mapped : (p q : Phone) (f : Certificate → Certificate) → q .trust .certificates ≡ map f (p .trust .certificates)

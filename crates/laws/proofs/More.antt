@@ -1,19 +1,11 @@
 -- Rules that grow by one record: `all`, `all-pairs` and `distinct`, each with what it asks of the record more. Assumes nothing.
 use Prim.Native.Nat.{ℕ, zero, suc, _+_, _-_, _≤_, _<_}
-use mathlib.Core.Bool.{Bool, true, false, not, _&&_, _||_, and-true, or-true}
-use mathlib.Core.List.{List, [], _∷_, _++_, map}
-use mathlib.Core.Path.{_≡_, refl, sym, ap, _∙_, subst}
-use native.Mathlib.Numerals.{add-one}
-use native.Mathlib.Omega.{arith}
-use native.Mathlib.Decide.{decLt}
+use mathlib.Core.{Bool.{Bool, true, false, not, _&&_, _||_, and-true, or-true}, List.{List, [], _∷_, _++_, map}, Path.{_≡_, refl, sym, ap, _∙_, subst}}
+use native.{Mathlib.Numerals.add-one, Mathlib.Omega.arith, Mathlib.Decide.decLt}
 use borrow.Author.Tests.{not-true, not-false, ne-eqb}
-use lib.Dec.{eqb, eqb→eq}
-use lib.ListN.{length, getD, take}
-use lib.Seq.{take-suc}
-use Rattle.rules.specs.Words.{any, all, all-pairs, distinct}
-use Rattle.rules.specs.Parts.{apart}
-use Rattle.laws.proofs.Tests.{neqb→ne, by-test}
-use Rattle.laws.proofs.Lowest.{Grows}
+use lib.{Dec.{eqb, eqb→eq}, ListN.{length, getD, take}, Seq.take-suc}
+use Rattle.rules.specs.{Words.{any, all, all-pairs, distinct}, Parts.apart}
+use Rattle.laws.proofs.{Tests.{neqb→ne, by-test}, Lowest.Grows}
 
 and-and : (a b c : Bool) → (a && (b && c)) ≡ ((a && b) && c)
 and-and true b c = refl

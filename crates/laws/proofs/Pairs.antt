@@ -1,18 +1,11 @@
 -- The tests of I4 and I5 on one certificate or two say what their propositions say. Assumes nothing.
 use Prim.Native.Nat.{ℕ}
-use mathlib.Core.Bool.{Bool, not, _&&_}
-use mathlib.Core.List.{List, List·Memᴰ}
-use mathlib.Core.Logic.{_≢_}
-use mathlib.Core.Path.{_≡_}
+use mathlib.Core.{Bool.{Bool, not, _&&_}, List.{List, List·Memᴰ}, Logic._≢_, Path._≡_}
 use lib.Dec.{T, eqb, eqb→eq}
-use Rattle.records.specs.Phone.{Seen, Trust}
-use Rattle.records.specs.declared.Certificate.{Certificate}
-use Rattle.records.specs.declared.Card.{Card}
-use Rattle.rules.specs.ImageRules.{operator-of, operator-root, valid-in, has-valid-operator, key-of-one-domain, card-owns}
-use Rattle.rules.specs.ImageRules.{one-in-place, not-both, owned-by-card, one-manufacturer}
-use Rattle.laws.proofs.Tests.{tests, eq→eqb, implies-out, implies-in}
-use Rattle.laws.proofs.Lists.{any-in}
-use Rattle.laws.proofs.Accepted.{Valid}
+use Rattle.records.specs.{Phone.{Seen, Trust}, declared.Certificate.Certificate, declared.Card.Card}
+use Rattle.rules.specs.ImageRules.{operator-of, operator-root, valid-in, has-valid-operator, key-of-one-domain, card-owns, one-in-place, not-both}
+use Rattle.rules.specs.ImageRules.{owned-by-card, one-manufacturer}
+use Rattle.laws.proofs.{Tests.{tests, eq→eqb, implies-out, implies-in}, Lists.any-in, Accepted.Valid}
 
 -- ---- I4
 

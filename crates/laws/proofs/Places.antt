@@ -1,17 +1,11 @@
 -- Where the first slot that passes a test stands, what a loop keeps of it, and what it is worth. Assumes nothing.
 use Prim.Native.Nat.{ℕ, suc, _+_, _≤_, _<_}
-use mathlib.Core.Bool.{Bool, true, false, cond, _||_}
-use mathlib.Core.List.{List, [], _∷_}
-use mathlib.Core.Path.{_≡_, refl, sym, ap, subst, _∙_}
-use native.Mathlib.Nat.{zero-add}
-use native.Mathlib.Omega.{arith}
+use mathlib.Core.{Bool.{Bool, true, false, cond, _||_}, List.{List, [], _∷_}, Path.{_≡_, refl, sym, ap, subst, _∙_}}
+use native.{Mathlib.Nat.zero-add, Mathlib.Omega.arith}
 use borrow.Author.Tests.{lt-ltb, le-ltb}
-use lib.Dec.{T, ltb, leb·suc-zero, leb·suc-suc}
-use lib.ListN.{length, getD, drop, drop-of-length-le}
+use lib.{Dec.{T, ltb, leb·suc-zero, leb·suc-suc}, ListN.{length, getD, drop, drop-of-length-le}}
 use Rattle.rules.specs.Words.{any, find, first-place}
-use Rattle.laws.proofs.Accepts.{T-true}
-use Rattle.laws.proofs.Loops.{rest}
-use Rattle.laws.proofs.Slots.{any-at}
+use Rattle.laws.proofs.{Accepts.T-true, Loops.rest, Slots.any-at}
 
 module _ {A : Type 0} (t : A → Bool) (d : A) (l : List A) (i : ℕ) where
   here : i < length l → t (getD l i d) ≡ true → first-place t (drop i l) ≡ 0

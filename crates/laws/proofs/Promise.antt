@@ -1,19 +1,10 @@
 -- What is known of an accepted image. Assumes nothing.
 use Prim.Native.Nat.{ℕ, _≤_}
-use mathlib.Core.Bool.{true}
-use mathlib.Core.List.{List}
-use mathlib.Core.Logic.{_≢_, _⊎_, inl, inr}
-use mathlib.Core.Path.{_≡_, ap}
+use mathlib.Core.{Bool.true, List.List, Logic.{_≢_, _⊎_, inl, inr}, Path.{_≡_, ap}}
 use native.Mathlib.Omega.{arith}
-use Rattle.records.specs.Phone.{decode, no-certificate, no-executable}
-use Rattle.records.specs.declared.Certificate.{Certificate}
-use Rattle.records.specs.Frame.{Framed}
-use Rattle.rules.specs.ImageRules.{accepted}
-use Rattle.records.specs.declared.Executable.{Executable}
-use Rattle.laws.proofs.Accepted.{Occupied, Stored}
-use Rattle.laws.proofs.Accepts.{accepted-out}
-use Rattle.rules.specs.AcceptedImage.{Accepted-image}
-use Rattle.laws.proofs.Slots.{at-each}
+use Rattle.records.specs.{Phone.{decode, no-certificate, no-executable}, declared.Certificate.Certificate, Frame.Framed, declared.Executable.Executable}
+use Rattle.rules.specs.{ImageRules.accepted, AcceptedImage.Accepted-image}
+use Rattle.laws.proofs.{Accepted.{Occupied, Stored}, Accepts.accepted-out, Slots.at-each}
 
 pub executable-domain : {n : ℕ} (x : Executable) → (x ≡ no-executable) ⊎ Stored n x → x .domain ≤ 3
 executable-domain x (inl z) = let e : x .domain ≡ 0 = ap (λ y. y .domain) z in omega arith

@@ -4,10 +4,8 @@ use mathlib.Core.Path.{_≡_, sym, _∙_, subst}
 use native.Mathlib.Nat.{le-trans}
 use lib.Dec.{T, leb, leb→le, le→leb}
 use Rattle.records.specs.declared.Certificate.{Certificate}
-use Rattle.rules.specs.Chains.{in-date, valid-root}
-use Rattle.rules.specs.ImageRules.{valid-in}
-use Rattle.laws.proofs.Tests.{tests}
-use Rattle.laws.proofs.Accepted.{Valid}
+use Rattle.rules.specs.{Chains.{in-date, valid-root}, ImageRules.valid-in}
+use Rattle.laws.proofs.{Tests.tests, Accepted.Valid}
 
 pub valid-root-of : (d t : ℕ) (c : Certificate) → Valid d t c → T (valid-root t c)
 unfolding valid-in

@@ -1,27 +1,15 @@
 -- How each rule grows by a record, and what is known of the fault that is told. Assumes nothing.
 use Prim.Native.Nat.{ℕ}
-use mathlib.Core.Bool.{Bool, true, false, cond, not, _&&_, _||_, true≢false, and-comm, and-true}
-use mathlib.Core.List.{List}
-use mathlib.Core.Logic.{_≢_}
-use mathlib.Core.Path.{_≡_, refl, sym, ap, _∙_}
-use lib.Dec.{T, eqb, ltb}
-use lib.ListN.{length}
-use Rattle.records.specs.Phone.{Seen, Phone}
-use Rattle.records.specs.declared.Certificate.{Certificate}
-use Rattle.records.specs.declared.Card.{Card}
-use Rattle.rules.specs.declared.Fault.{Fault}
-use Rattle.rules.specs.Words.{_implies_, all, all-pairs}
-use Rattle.rules.specs.ImageRules.{known-place, slot-fits, card-fits, cards-fit, places-known, key-of-one-domain, card-owns, valid-in}
-use Rattle.rules.specs.ImageRules.{one-in-place, not-both, owned-by-card, one-manufacturer, executable-slot-fits, chained-fits}
-use Rattle.rules.specs.Parts.{apart, card-with, i4-with, i5-pair, i5-with, executable-with}
-use Rattle.rules.specs.ImageRules.{i2, i4, i5, i7, i8}
-use Rattle.rules.specs.Faults.{lowest, of-certificates, of-executables}
-use Rattle.laws.proofs.Tests.{same}
-use Rattle.laws.proofs.Accepts.{T-true, true-T}
-use Rattle.laws.proofs.Lists.{all-in}
+use mathlib.Core.{Bool.{Bool, true, false, cond, not, _&&_, _||_, true≢false, and-comm, and-true}, List.List, Logic._≢_, Path.{_≡_, refl, sym, ap, _∙_}}
+use lib.{Dec.{T, eqb, ltb}, ListN.length}
+use Rattle.records.specs.{Phone.{Seen, Phone}, declared.Certificate.Certificate, declared.Card.Card}
+use Rattle.rules.specs.{declared.Fault.Fault, Words.{_implies_, all, all-pairs}}
+use Rattle.rules.specs.ImageRules.{known-place, slot-fits, card-fits, cards-fit, places-known, key-of-one-domain, card-owns, valid-in, one-in-place, not-both}
+use Rattle.rules.specs.ImageRules.{owned-by-card, one-manufacturer, executable-slot-fits, chained-fits, i2, i4, i5, i7, i8}
+use Rattle.rules.specs.{Parts.{apart, card-with, i4-with, i5-pair, i5-with, executable-with}, Faults.{lowest, of-certificates, of-executables}}
+use Rattle.laws.proofs.{Tests.same, Accepts.{T-true, true-T}, Lists.all-in}
 use Rattle.laws.proofs.Pairs.{key-out, key-in, in-place-out, in-place-in, not-both-in, manufacturer-out, manufacturer-in}
-use Rattle.laws.proofs.Lowest.{Grows, both-grow, grows-as, lowest-told}
-use Rattle.laws.proofs.More.{all-grows, all-and, pairs-grow, even-pairs-grow, distinct-grows}
+use Rattle.laws.proofs.{Lowest.{Grows, both-grow, grows-as, lowest-told}, More.{all-grows, all-and, pairs-grow, even-pairs-grow, distinct-grows}}
 
 -- ---- the tests of pairs: each certificate passes with itself, and three of the four are even
 

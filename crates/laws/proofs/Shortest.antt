@@ -1,19 +1,11 @@
 -- A chain as a list of records: there is one where the rules say so, and the link count is the length of a shortest. Assumes nothing.
 use Prim.Native.Nat.{ℕ, zero, suc, _≤_}
-use mathlib.Core.Bool.{Bool, true, false, cond, not}
-use mathlib.Core.List.{List, [], _∷_}
-use mathlib.Core.Logic.{_≢_, _↔_}
-use mathlib.Core.Path.{_≡_, refl}
+use mathlib.Core.{Bool.{Bool, true, false, cond, not}, List.{List, [], _∷_}, Logic.{_≢_, _↔_}, Path.{_≡_, refl}}
 use native.Mathlib.Omega.{arith}
-use lib.Dec.{T, eqb, leb, leb→le, nleb→lt, eqb→eq}
-use lib.ListN.{length}
-use Rattle.records.specs.Phone.{Trust}
-use Rattle.records.specs.declared.Certificate.{Certificate}
-use Rattle.rules.specs.Words.{least}
-use Rattle.rules.specs.Explicit.{Chain, ends, goes-on, Chain-within, Shortest}
-use Rattle.rules.specs.Chains.{most-links, within, chains-to, links}
-use Rattle.laws.proofs.Tests.{neqb→ne, by-test}
-use Rattle.laws.proofs.Keys.{Key, by-root, by-issued, within-key, within-signed, key-within}
+use lib.{Dec.{T, eqb, leb, leb→le, nleb→lt, eqb→eq}, ListN.length}
+use Rattle.records.specs.{Phone.Trust, declared.Certificate.Certificate}
+use Rattle.rules.specs.{Words.least, Explicit.{Chain, ends, goes-on, Chain-within, Shortest}, Chains.{most-links, within, chains-to, links}}
+use Rattle.laws.proofs.{Tests.{neqb→ne, by-test}, Keys.{Key, by-root, by-issued, within-key, within-signed, key-within}}
 use Rattle.laws.proofs.Least.{least-small, least-passes, least-least}
 
 -- ---- chains of at most n records are what is good within n

@@ -1,19 +1,11 @@
 -- A loop that writes f of each slot in its place: what it has done after i of them, in a list and in an image. Assumes nothing.
 use Prim.Native.Nat.{ℕ, zero, suc, _+_, _-_, _≤_, _<_}
-use mathlib.Core.Bool.{Bool, false, _||_, or-false, or-assoc}
-use mathlib.Core.List.{List, [], _∷_, map}
-use mathlib.Core.Path.{_≡_, refl, sym, ap, _∙_, subst}
-use native.Mathlib.Nat.{le-of-suc-le-suc, not-suc-le-zero}
-use native.Mathlib.Numerals.{add-one}
-use native.Mathlib.Omega.{arith}
-use lib.ListN.{length, getD, drop, set, length-set}
-use lib.Seq.{set-getD}
-use Rattle.records.specs.Phone.{Phone, decode, encode}
-use Rattle.records.specs.Frame.{Framed}
-use Rattle.rules.specs.Words.{any}
-use Rattle.laws.proofs.Loops.{any-rest, any-next, any-end}
-use Rattle.rules.specs.Sweeping.{map-at, swept}
-use Rattle.laws.proofs.Tables.{Part, says, framed-as}
+use mathlib.Core.{Bool.{Bool, false, _||_, or-false, or-assoc}, List.{List, [], _∷_, map}, Path.{_≡_, refl, sym, ap, _∙_, subst}}
+use native.{Mathlib.Nat.{le-of-suc-le-suc, not-suc-le-zero}, Mathlib.Numerals.add-one, Mathlib.Omega.arith}
+use lib.{ListN.{length, getD, drop, set, length-set}, Seq.set-getD}
+use Rattle.records.specs.{Phone.{Phone, decode, encode}, Frame.Framed}
+use Rattle.rules.specs.{Words.any, Sweeping.{map-at, swept}}
+use Rattle.laws.proofs.{Loops.{any-rest, any-next, any-end}, Tables.{Part, says, framed-as}}
 
 -- ---- in a list
 

@@ -1,16 +1,11 @@
 -- The rules speak of every slot; code finds one slot and writes it. These say that it comes to the same. Assumes nothing.
 use Prim.Native.Nat.{ℕ, zero, suc, _<_}
-use mathlib.Core.Bool.{Bool, true, false, cond, not, _||_}
-use mathlib.Core.List.{List, [], _∷_, map, List·Memᴰ, List·Memᴰ·head, List·Memᴰ·tail}
-use mathlib.Core.Logic.{_≢_}
+use mathlib.Core.{Bool.{Bool, true, false, cond, not, _||_}, List.{List, [], _∷_, map, List·Memᴰ, List·Memᴰ·head, List·Memᴰ·tail}, Logic._≢_}
 use mathlib.Core.Path.{_≡_, refl, sym, ap, _∙_}
-use native.Mathlib.Omega.{arith}
-use native.Mathlib.Nat.{le-of-suc-le-suc, not-suc-le-zero}
-use lib.Dec.{T, eqb}
-use lib.ListN.{getD, set, length}
+use native.{Mathlib.Omega.arith, Mathlib.Nat.{le-of-suc-le-suc, not-suc-le-zero}}
+use lib.{Dec.{T, eqb}, ListN.{getD, set, length}}
 use Rattle.rules.specs.Words.{any, at, fill, find, distinct}
-use Rattle.laws.proofs.Tests.{eq→eqb, ne→neqb, or-i, or-j}
-use Rattle.laws.proofs.Distinct.{head-alone, tail-distinct}
+use Rattle.laws.proofs.{Tests.{eq→eqb, ne→neqb, or-i, or-j}, Distinct.{head-alone, tail-distinct}}
 
 module _ {A : Type 0} where
   pub mem-at : (l : List A) (k : ℕ) (d : A) → k < length l → List·Memᴰ (getD l k d) l

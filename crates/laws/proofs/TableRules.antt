@@ -1,16 +1,11 @@
 -- What rule I6 says of the bytes of a row. Assumes nothing.
 use Prim.Native.Nat.{ℕ, zero, suc, _≤_}
-use mathlib.Core.List.{List, [], _∷_, List·Memᴰ, List·Memᴰ·head, List·Memᴰ·tail}
-use mathlib.Core.Path.{refl}
+use mathlib.Core.{List.{List, [], _∷_, List·Memᴰ, List·Memᴰ·head, List·Memᴰ·tail}, Path.refl}
 use native.Mathlib.Omega.{arith}
-use lib.Dec.{T, leb→le}
-use lib.ListN.{getD}
-use Rattle.records.specs.Layout.{row-byte}
-use Rattle.records.specs.Phone.{Phone, no-row, row-at}
-use Rattle.records.specs.declared.Row.{Row}
+use lib.{Dec.{T, leb→le}, ListN.getD}
+use Rattle.records.specs.{Layout.row-byte, Phone.{Phone, no-row, row-at}, declared.Row.Row}
 use Rattle.rules.specs.ImageRules.{row-fits}
-use Rattle.laws.proofs.Tests.{tests}
-use Rattle.laws.proofs.Accepted.{Accepted}
+use Rattle.laws.proofs.{Tests.tests, Accepted.Accepted}
 
 -- the test, byte by byte
 record Fair (r : Row) : Type 0 where

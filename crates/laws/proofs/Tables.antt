@@ -1,18 +1,13 @@
 -- The two lists of slots of a phone, certificates and executables: what a write to either has in common. Assumes nothing.
 use Prim.Native.Nat.{ℕ}
-use mathlib.Core.List.{List, map}
-use mathlib.Core.Path.{_≡_, refl, sym, ap, _∙_, subst}
+use mathlib.Core.{List.{List, map}, Path.{_≡_, refl, sym, ap, _∙_, subst}}
 use native.Mathlib.Omega.{arith}
-use lib.Dec.{T}
-use lib.ListN.{length}
-use Rattle.records.specs.Phone.{Phone, decode, encode, no-certificate, no-executable, with-card, with-certificates, with-executables}
-use Rattle.records.specs.Frame.{Sized, Framed}
-use Rattle.records.specs.declared.Certificate.{Certificate}
-use Rattle.records.specs.declared.Executable.{Executable}
+use lib.{Dec.T, ListN.length}
+use Rattle.records.specs.{Phone.{Phone, decode, encode, no-certificate, no-executable, with-card, with-certificates, with-executables}, Frame.{Sized, Framed}}
+use Rattle.records.specs.{declared.Certificate.Certificate, declared.Executable.Executable}
 use Rattle.records.proofs.RoundTrip.{decode-encode, framed-encode}
-use Rattle.rules.specs.Words.{distinct}
+use Rattle.rules.specs.{Words.distinct, AcceptedImage.Accepted-image}
 use Rattle.laws.proofs.Accepts.{accepted-out}
-use Rattle.rules.specs.AcceptedImage.{Accepted-image}
 
 -- what the image of a phone q says, and that it is framed
 pub says : (q : Phone) {s : List ℕ} → s ≡ encode q → decode s ≡ q

@@ -1,10 +1,7 @@
 -- Boolean tests, taken apart and put together. Assumes nothing.
 use Prim.Native.Nat.{ℕ}
-use mathlib.Core.Bool.{Bool, true, false, cond, not, _&&_, _||_}
-use mathlib.Core.Logic.{_≢_, _⊎_, inl, inr}
-use mathlib.Core.Path.{_≡_, refl, sym, subst}
+use mathlib.Core.{Bool.{Bool, true, false, cond, not, _&&_, _||_}, Logic.{_≢_, _⊎_, inl, inr}, Path.{_≡_, refl, sym, subst}, List.{List, [], _∷_}}
 use lib.Dec.{T, T-not, not-T, eqb, eqb→eq, eqb-refl}
-use mathlib.Core.List.{List, [], _∷_}
 use Rattle.rules.specs.Words.{_implies_, Check, _⇒_, first}
 
 pub and-l : (a b : Bool) → T (a && b) → T a

@@ -1,33 +1,20 @@
 -- 02, item 1: what the fault of an image is worth. Assumes nothing.
 use Prim.Native.Nat.{ℕ, zero, suc, _+_, _≤_, _<_}
-use mathlib.Core.Bool.{Bool, true, false, cond, not, _&&_, true≢false, and-assoc, and-true}
-use mathlib.Core.List.{List, [], _∷_, _++_}
-use mathlib.Core.Logic.{inl, inr}
+use mathlib.Core.{Bool.{Bool, true, false, cond, not, _&&_, true≢false, and-assoc, and-true}, List.{List, [], _∷_, _++_}, Logic.{inl, inr}}
 use mathlib.Core.Path.{_≡_, refl, sym, ap, ap₂, _∙_, subst}
-use native.Mathlib.Nat.{zero-add}
-use native.Mathlib.Omega.{arith}
-use native.Mathlib.Decide.{decLt}
+use native.{Mathlib.Nat.zero-add, Mathlib.Omega.arith, Mathlib.Decide.decLt}
 use borrow.Author.Tests.{eq-eqb, le-leb, lt-leb, le-ltb}
-use lib.Dec.{T, eqb, leb, leb→le, eqb→eq}
-use lib.ListN.{length, getD}
-use Rattle.records.specs.Sizes.{header-size, largest-image}
-use Rattle.records.specs.Layout.{certificate-read, card-read, executable-read, row-read}
+use lib.{Dec.{T, eqb, leb, leb→le, eqb→eq}, ListN.{length, getD}}
+use Rattle.records.specs.{Sizes.{header-size, largest-image}, Layout.{certificate-read, card-read, executable-read, row-read}}
 use Rattle.records.specs.Phone.{Phone, decode, no-certificate, no-card, no-executable, no-row, certificate-at, card-at, executable-at, row-at}
 use Rattle.records.specs.Frame.{Field, _right-if_, header-fits, framed, header-fields, total-byte, first-wrong, header-fault}
-use Rattle.records.proofs.Wrong.{too-short}
-use Rattle.records.proofs.Joined.{getD-tabulate}
-use Rattle.records.proofs.Said.{length-certificates, length-cards, length-executables, length-table, certificate-said}
+use Rattle.records.proofs.{Wrong.too-short, Joined.getD-tabulate, Said.{length-certificates, length-cards, length-executables, length-table, certificate-said}}
 use Rattle.records.proofs.FrameFacts.{fields}
-use Rattle.rules.specs.declared.Site.{Site}
-use Rattle.rules.specs.Words.{all, Check, _⇒_, first}
-use Rattle.rules.specs.ImageRules.{i2, i3, i4, i5, i6, i7, i8, broken, accepted, row-fits}
-use Rattle.rules.specs.ImageRules.{cards-fit, present-known, places-known}
+use Rattle.rules.specs.{declared.Site.Site, Words.{all, Check, _⇒_, first}}
+use Rattle.rules.specs.ImageRules.{i2, i3, i4, i5, i6, i7, i8, broken, accepted, row-fits, cards-fit, present-known, places-known}
 use Rattle.rules.specs.Faults.{lowest, of-certificates, of-executables, i3-site, sites, at-rule, no-fault, fault, offset-of, fault-offset}
 use Rattle.rules.specs.FaultNames.{rules, is-right, i1-fields, Wrong-field, Lowest-at, Wrong-card, Within}
-use Rattle.laws.proofs.Tests.{and-l, and-r}
-use Rattle.laws.proofs.Accepts.{true-T}
-use Rattle.laws.proofs.Lowest.{Grows, lowest-below, lowest-with, lowest-told}
-use Rattle.laws.proofs.More.{all-grows}
+use Rattle.laws.proofs.{Tests.{and-l, and-r}, Accepts.true-T, Lowest.{Grows, lowest-below, lowest-with, lowest-told}, More.all-grows}
 use Rattle.laws.proofs.RulesGrow.{i2-grows, i4-grows, i5-grows, i7-grows, i8-grows, cards-grow, places-grow}
 
 -- ---- no fault exactly if accepted

@@ -1,14 +1,10 @@
 -- Where a record is found, from what a loop through the slots met, and what it is worth. Assumes nothing.
 use Prim.Native.Nat.{ℕ, _≤_, _<_}
-use mathlib.Core.Bool.{Bool, true, false, cond}
-use mathlib.Core.List.{List}
-use mathlib.Core.Path.{_≡_, refl, sym, ap, _∙_}
+use mathlib.Core.{Bool.{Bool, true, false, cond}, List.List, Path.{_≡_, refl, sym, ap, _∙_}}
 use lib.ListN.{length, getD}
 use Rattle.rules.specs.Words.{any, first-place}
 use Rattle.laws.proofs.Places.{place-here, place-end, place-none, somewhere}
-use Rattle.lookup.specs.declared.Found.{Found}
-use Rattle.lookup.specs.RecordFound.{found}
-use Rattle.lookup.specs.RoomForOne.{Passed}
+use Rattle.lookup.specs.{declared.Found.Found, RecordFound.found, RoomForOne.Passed}
 use Rattle.lookup.proofs.FirstWithin.{first-within}
 
 unfoldable slot : Found → ℕ

@@ -1,16 +1,10 @@
 -- The room for one more record, from what a sweep through the slots found. Assumes nothing.
 use Prim.Native.Nat.{ℕ, _≤_, _<_}
-use mathlib.Core.Bool.{true, false}
-use mathlib.Core.List.{List}
-use mathlib.Core.Path.{_≡_}
+use mathlib.Core.{Bool.{true, false}, List.List, Path._≡_}
 use lib.ListN.{length}
-use Rattle.records.specs.declared.Certificate.{Certificate}
-use Rattle.records.specs.declared.Executable.{Executable}
-use Rattle.rules.specs.Words.{any, first-place}
-use Rattle.rules.specs.Codes.{has-id, in-another, is-executable}
-use Rattle.lookup.specs.declared.Room.{Room}
-use Rattle.lookup.specs.declared.CertificateRoom.{CertificateRoom}
-use Rattle.lookup.specs.RoomForOne.{executable-room, certificate-room}
+use Rattle.records.specs.{declared.Certificate.Certificate, declared.Executable.Executable}
+use Rattle.rules.specs.{Words.{any, first-place}, Codes.{has-id, in-another, is-executable}}
+use Rattle.lookup.specs.{declared.Room.Room, declared.CertificateRoom.CertificateRoom, RoomForOne.{executable-room, certificate-room}}
 use Rattle.laws.proofs.Places.{place-none, place-some}
 
 module _ (id : ℕ) (l : List Executable) where

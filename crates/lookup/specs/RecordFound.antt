@@ -1,6 +1,5 @@
 -- A record looked for. Definitions only.
-use mathlib.Core.Bool.{Bool, cond}
-use mathlib.Core.List.{List}
+use mathlib.Core.{Bool.{Bool, cond}, List.List}
 use Rattle.rules.specs.Words.{any, first-place}
 use Rattle.lookup.specs.declared.Found.{Found}
 

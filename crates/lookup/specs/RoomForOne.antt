@@ -1,15 +1,10 @@
 -- The room for one more record. Definitions only.
 use Prim.Native.Nat.{ℕ, _+_}
-use mathlib.Core.Bool.{Bool, cond}
-use mathlib.Core.List.{List}
-use mathlib.Core.Path.{_≡_}
+use mathlib.Core.{Bool.{Bool, cond}, List.List, Path._≡_}
 use lib.ListN.{drop}
-use Rattle.records.specs.declared.Certificate.{Certificate}
-use Rattle.records.specs.declared.Executable.{Executable}
-use Rattle.rules.specs.Words.{any, first-place}
-use Rattle.rules.specs.Codes.{has-id, in-another, is-executable}
-use Rattle.lookup.specs.declared.Room.{Room}
-use Rattle.lookup.specs.declared.CertificateRoom.{CertificateRoom}
+use Rattle.records.specs.{declared.Certificate.Certificate, declared.Executable.Executable}
+use Rattle.rules.specs.{Words.{any, first-place}, Codes.{has-id, in-another, is-executable}}
+use Rattle.lookup.specs.{declared.Room.Room, declared.CertificateRoom.CertificateRoom}
 
 -- no slot before slot i passes: the first that does is the first from i on
 abbrev pub Passed : {A : Type 0} → (A → Bool) → List A → ℕ → Type 0

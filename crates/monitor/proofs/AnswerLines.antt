@@ -1,28 +1,19 @@
 -- An answer about an executable: what the number and the lines tell. Assumes nothing.
 use Prim.Native.Nat.{ℕ, _+_, _*_, _/_, _%_, _≤_, _<_, min}
-use mathlib.Core.Bool.{true}
-use mathlib.Core.List.{List, [], _++_}
-use mathlib.Core.Logic.{_≢_}
-use mathlib.Core.Path.{_≡_, refl, sym, ap, _∙_}
-use native.Mathlib.Nat.{add-zero, zero-add}
-use native.Mathlib.Omega.{arith}
+use mathlib.Core.{Bool.true, List.{List, [], _++_}, Logic._≢_, Path.{_≡_, refl, sym, ap, _∙_}}
+use native.{Mathlib.Nat.{add-zero, zero-add}, Mathlib.Omega.arith}
 use borrow.Author.Tests.{eq-eqb, ne-eqb}
-use lib.ListN.{length, getD, take, drop, length-take}
-use lib.Seq.{take-nil, take-all, getD-append-add, getD-take}
+use lib.{ListN.{length, getD, take, drop, length-take}, Seq.{take-nil, take-all, getD-append-add, getD-take}}
 use Rattle.octets.specs.Octets.{put}
 use Rattle.octets.proofs.ByteLaws.{put-none, getD-put-after}
 use Rattle.records.specs.Phone.{decode, joined}
 use Rattle.records.proofs.Joined.{length-joined, read-joined}
-use Rattle.rules.specs.declared.Answer.{Answer}
-use Rattle.rules.specs.ImageRules.{accepted, «open»}
-use Rattle.rules.specs.Faults.{fault, fault-offset}
-use Rattle.rules.specs.Step.{refusal}
+use Rattle.rules.specs.{declared.Answer.Answer, ImageRules.{accepted, «open»}, Faults.{fault, fault-offset}, Step.refusal}
 use Rattle.laws.proofs.Where.{accepted-no-fault, rule-known, offset-small}
 use Rattle.opening.specs.Opened.{opened}
 use Rattle.opening.proofs.Offsets.{opened-told}
 use Rattle.explanations.specs.Why.{Line, line, explanation}
-use Rattle.reasons.specs.declared.Why.{Why}
-use Rattle.reasons.specs.Lines.{line-size, line-bytes, most-lines, with-lines, why-code, lines-of, why, Explained}
+use Rattle.reasons.specs.{declared.Why.Why, Lines.{line-size, line-bytes, most-lines, with-lines, why-code, lines-of, why, Explained}}
 use Rattle.reasons.proofs.Room.{code-cases, lines-few}
 use Rattle.monitor.specs.Told.{packed, told-code, told-rule, told-offset, why-packed, told-lines, line-from, line-at, Asked}
 use Rattle.monitor.proofs.Answers.{open-one}

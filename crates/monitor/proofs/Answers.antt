@@ -1,39 +1,21 @@
 -- Each part of an answer fits the bytes that it is told in, and an answer can be read back from the number and from the bytes. Assumes nothing.
 use Prim.Native.Nat.{ℕ, zero, suc, _+_, _*_, _/_, _%_, _≤_, _<_}
-use mathlib.Core.Bool.{Bool, true, false, cond, _&&_, _||_}
-use mathlib.Core.List.{List, [], _∷_, _++_, List·Memᴰ, List·Memᴰ·head, List·Memᴰ·tail}
-use mathlib.Core.Logic.{_≢_}
+use mathlib.Core.{Bool.{Bool, true, false, cond, _&&_, _||_}, List.{List, [], _∷_, _++_, List·Memᴰ, List·Memᴰ·head, List·Memᴰ·tail}, Logic._≢_}
 use mathlib.Core.Path.{_≡_, refl, sym, ap, _∙_}
-use native.Mathlib.Nat.{add-zero, zero-add, zero-mul}
-use native.Mathlib.Omega.{arith}
-use lib.Dec.{T, eqb, leb, leb→le}
-use lib.ListN.{length, getD, take, drop}
-use lib.Seq.{drop-drop, getD-append-add}
+use native.{Mathlib.Nat.{add-zero, zero-add, zero-mul}, Mathlib.Omega.arith}
+use lib.{Dec.{T, eqb, leb, leb→le}, ListN.{length, getD, take, drop}, Seq.{drop-drop, getD-append-add}}
 use Rattle.octets.specs.Octets.{put}
-use Rattle.records.specs.Sizes.{event-size}
-use Rattle.records.specs.Phone.{Phone, decode, joined}
-use Rattle.records.specs.declared.Event.{Event}
+use Rattle.records.specs.{Sizes.event-size, Phone.{Phone, decode, joined}, declared.Event.Event}
 use Rattle.records.proofs.Joined.{read-joined}
-use Rattle.rules.specs.Words.{Check, _⇒_, first, find}
-use Rattle.rules.specs.ImageRules.{accepted, «open»}
-use Rattle.rules.specs.Chains.{most-links, links}
-use Rattle.rules.specs.Codes.{executable-named, rows, code}
-use Rattle.rules.specs.Effects.{changed}
-use Rattle.rules.specs.declared.Answer.{Answer}
-use Rattle.rules.specs.Step.{refused, refused-at, refusal, done, step, run, answers}
-use Rattle.laws.proofs.Tests.{and-l, and-r, eq→eqb}
-use Rattle.laws.proofs.Accepted.{Accepted}
-use Rattle.laws.proofs.Accepts.{accepted-out}
-use Rattle.laws.proofs.Shortest.{links-small}
-use Rattle.laws.proofs.Where.{rule-known, offset-small}
+use Rattle.rules.specs.{Words.{Check, _⇒_, first, find}, ImageRules.{accepted, «open»}, Chains.{most-links, links}, Codes.{executable-named, rows, code}}
+use Rattle.rules.specs.{Effects.changed, declared.Answer.Answer, Step.{refused, refused-at, refusal, done, step, run, answers}}
+use Rattle.laws.proofs.{Tests.{and-l, and-r, eq→eqb}, Accepted.Accepted, Accepts.accepted-out, Shortest.links-small, Where.{rule-known, offset-small}}
 use Rattle.keeping.specs.OneEvent.{event-of}
-use Rattle.keeping.proofs.Bytes.{step-cases, step-refused, refusal-cases, code-whole-out}
-use Rattle.keeping.proofs.AcceptedKept.{accepted-changed}
-use Rattle.keeping.proofs.EventAnswers.{zero-if}
+use Rattle.keeping.proofs.{Bytes.{step-cases, step-refused, refusal-cases, code-whole-out}, AcceptedKept.accepted-changed, EventAnswers.zero-if}
 use Rattle.keeping.proofs.Naming.{small-domain}
 use Rattle.opening.specs.Opened.{opened}
-use Rattle.monitor.specs.Told.{packed, told-code, told-domain, told-links, told-rule, told-offset}
-use Rattle.monitor.specs.Told.{answer-size, answer-bytes, answer-from, answer-at, events-of}
+use Rattle.monitor.specs.Told.{packed, told-code, told-domain, told-links, told-rule, told-offset, answer-size, answer-bytes, answer-from, answer-at}
+use Rattle.monitor.specs.Told.{events-of}
 
 -- ---- every part is a byte, and the offset is two
 

@@ -1,27 +1,16 @@
 -- Laws of a run: what is left of it shrinks by an event at a time. Assumes nothing.
 use Prim.Native.Nat.{ℕ, zero, suc, _+_, _-_, _*_, _/_, _%_, _≤_, _<_}
-use mathlib.Core.Bool.{Bool, cond}
-use mathlib.Core.List.{List, [], _∷_}
-use mathlib.Core.Logic.{_≢_}
-use mathlib.Core.Path.{_≡_, refl, sym, ap, ap₂, _∙_, subst}
-use native.Mathlib.Nat.{sub-zero}
-use native.Mathlib.Omega.{arith}
+use mathlib.Core.{Bool.{Bool, cond}, List.{List, [], _∷_}, Logic._≢_, Path.{_≡_, refl, sym, ap, ap₂, _∙_, subst}}
+use native.{Mathlib.Nat.sub-zero, Mathlib.Omega.arith}
 use borrow.Author.Tests.{eq-eqb, ne-eqb}
-use lib.Dec.{eqb, eqb→eq}
-use lib.ListN.{length, take, drop, replicate, length-drop}
-use lib.Seq.{drop-drop, take-all}
+use lib.{Dec.{eqb, eqb→eq}, ListN.{length, take, drop, replicate, length-drop}, Seq.{drop-drop, take-all}}
 use Rattle.octets.specs.Octets.{put}
 use Rattle.octets.proofs.ByteLaws.{put-none, length-put}
-use Rattle.records.specs.Sizes.{event-size}
-use Rattle.records.specs.Phone.{joined}
+use Rattle.records.specs.{Sizes.event-size, Phone.joined}
 use Rattle.records.proofs.Puts.{put-next}
-use Rattle.rules.specs.declared.Answer.{Answer}
-use Rattle.rules.specs.declared.Fault.{Fault}
-use Rattle.rules.specs.Faults.{fault}
-use Rattle.rules.specs.Step.{refused-at, run, answers}
+use Rattle.rules.specs.{declared.Answer.Answer, declared.Fault.Fault, Faults.fault, Step.{refused-at, run, answers}, AcceptedImage.Accepted-image}
 use Rattle.laws.proofs.Tests.{by-test, neqb→ne}
 use Rattle.opening.specs.Opened.{Opened}
-use Rattle.rules.specs.AcceptedImage.{Accepted-image}
 use Rattle.events.specs.Stepped.{Stepped, Stepped-accepted}
 use Rattle.events.proofs.Steps.{broken-stepped}
 use Rattle.monitor.specs.Told as Told

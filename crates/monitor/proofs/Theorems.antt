@@ -5,22 +5,14 @@
 -- `lines-of`, `why-code` (reasons, specs/Lines), `timeline-code`, `timeline-events` (timeline, specs/Timeline), `in-turn` (timeline,
 -- specs/Running), and here specs/Told.
 use Prim.Native.Nat.{ℕ, _+_, _*_, _/_, _%_, _≤_, _<_, min}
-use mathlib.Core.Bool.{true}
-use mathlib.Core.List.{List, [], _++_}
-use mathlib.Core.Logic.{_≢_, _↔_}
-use mathlib.Core.Path.{_≡_, refl, sym, ap, _∙_}
+use mathlib.Core.{Bool.true, List.{List, [], _++_}, Logic.{_≢_, _↔_}, Path.{_≡_, refl, sym, ap, _∙_}}
 use native.Mathlib.Omega.{arith}
 use lib.ListN.{length, getD, take, drop}
 use Rattle.octets.specs.Octets.{bytes, put}
 use Rattle.octets.proofs.ByteLaws.{getD-put-after}
-use Rattle.records.specs.Sizes.{event-size}
-use Rattle.records.specs.Phone.{decode, joined}
+use Rattle.records.specs.{Sizes.event-size, Phone.{decode, joined}}
 use Rattle.records.proofs.Joined.{length-joined}
-use Rattle.rules.specs.declared.Answer.{Answer}
-use Rattle.rules.specs.ImageRules.{accepted, «open»}
-use Rattle.rules.specs.Faults.{fault, fault-offset}
-use Rattle.rules.specs.Codes.{code}
-use Rattle.rules.specs.Step.{refused, step, run, answers}
+use Rattle.rules.specs.{declared.Answer.Answer, ImageRules.{accepted, «open»}, Faults.{fault, fault-offset}, Codes.code, Step.{refused, step, run, answers}}
 use Rattle.laws.proofs.Where.{no-fault-accepted, rule-known}
 use Rattle.keeping.proofs.EventAnswers.{answer-code, told-where, told-no-fault}
 use Rattle.opening.specs.Opened.{opened}
@@ -28,16 +20,11 @@ use Rattle.opening.proofs.Offsets.{opened-told}
 use Rattle.explanations.specs.Why.{said-link, line, explanation}
 use Rattle.reasons.specs.Lines.{line-size, most-lines, with-lines, why-code, lines-of}
 use Rattle.reasons.proofs.Room.{lines-few, lines-some}
-use Rattle.timeline.specs.Timeline.{timed, timeline-code, timeline-events, most-events}
-use Rattle.timeline.specs.Unrolls.{with-events}
-use Rattle.timeline.specs.Running.{in-turn}
-use Rattle.timeline.proofs.UnrollsTold.{no-events, events-none}
-use Rattle.timeline.proofs.Lengths.{events-few, events-whole}
-use Rattle.timeline.proofs.Theorems.{run-as-events}
-use Rattle.monitor.specs.Told.{packed, told-code, told-domain, told-links, told-rule, told-offset, Stepped}
-use Rattle.monitor.specs.Told.{answer-size, answer-bytes, answer-at, events-of, event-count, answered, Ran}
-use Rattle.monitor.specs.Told.{why-packed, told-lines, line-at, Asked}
-use Rattle.monitor.specs.Told.{timeline-packed, told-events, event-at, Unrolled-for}
+use Rattle.timeline.specs.{Timeline.{timed, timeline-code, timeline-events, most-events}, Unrolls.with-events, Running.in-turn}
+use Rattle.timeline.proofs.{UnrollsTold.{no-events, events-none}, Lengths.{events-few, events-whole}, Theorems.run-as-events}
+use Rattle.monitor.specs.Told.{packed, told-code, told-domain, told-links, told-rule, told-offset, Stepped, answer-size, answer-bytes, answer-at}
+use Rattle.monitor.specs.Told.{events-of, event-count, answered, Ran, why-packed, told-lines, line-at, Asked, timeline-packed, told-events, event-at}
+use Rattle.monitor.specs.Told.{Unrolled-for}
 use Rattle.monitor.proofs.RunLaws.{counted, answered-room}
 use Rattle.monitor.proofs.Answers as Answers
 use Rattle.monitor.proofs.AnswerLines as Lines

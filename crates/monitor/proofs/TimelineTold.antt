@@ -1,35 +1,21 @@
 -- An answer about a timeline: what the number and the events in the buffer tell, and a run of these events. Assumes nothing.
 use Prim.Native.Nat.{ℕ, zero, suc, _+_, _*_, _≤_, _<_, min}
-use mathlib.Core.Bool.{Bool, true, false}
-use mathlib.Core.List.{List, [], _∷_, _++_, append-assoc, append-nil}
-use mathlib.Core.Logic.{_≢_}
-use mathlib.Core.Path.{_≡_, refl, sym, ap, ap₂, _∙_}
-use native.Mathlib.Nat.{zero-mul}
-use native.Mathlib.Omega.{arith}
-use lib.ListN.{length, getD, take, drop, length-take}
-use lib.Seq.{take-all, take-at, drop-at, getD-take, drop-drop}
+use mathlib.Core.{Bool.{Bool, true, false}, List.{List, [], _∷_, _++_, append-assoc, append-nil}, Logic._≢_, Path.{_≡_, refl, sym, ap, ap₂, _∙_}}
+use native.{Mathlib.Nat.zero-mul, Mathlib.Omega.arith}
+use lib.{ListN.{length, getD, take, drop, length-take}, Seq.{take-all, take-at, drop-at, getD-take, drop-drop}}
 use Rattle.octets.specs.Octets.{put}
 use Rattle.octets.proofs.ByteLaws.{getD-put-after}
-use Rattle.records.specs.Sizes.{event-size}
-use Rattle.records.specs.Phone.{joined}
-use Rattle.rules.specs.declared.Answer.{Answer}
-use Rattle.rules.specs.ImageRules.{accepted, «open»}
-use Rattle.rules.specs.Faults.{fault, fault-offset}
-use Rattle.rules.specs.Step.{run, answers}
+use Rattle.records.specs.{Sizes.event-size, Phone.joined}
+use Rattle.rules.specs.{declared.Answer.Answer, ImageRules.{accepted, «open»}, Faults.{fault, fault-offset}, Step.{run, answers}}
 use Rattle.laws.proofs.Where.{rule-known, offset-small}
 use Rattle.opening.specs.Opened.{opened}
 use Rattle.opening.proofs.Offsets.{opened-told}
-use Rattle.timeline.specs.declared.Unrolled.{Unrolled}
-use Rattle.timeline.specs.Timeline.{timeline-code, timeline-events}
-use Rattle.timeline.specs.Unrolls.{room, with-events, unroll, Unrolls}
-use Rattle.timeline.proofs.EventsPlaced.{Whole}
-use Rattle.timeline.proofs.UnrollsTold.{code-broken, events-none}
-use Rattle.timeline.proofs.Codes.{code-most}
+use Rattle.timeline.specs.{declared.Unrolled.Unrolled, Timeline.{timeline-code, timeline-events}, Unrolls.{room, with-events, unroll, Unrolls}}
+use Rattle.timeline.proofs.{EventsPlaced.Whole, UnrollsTold.{code-broken, events-none}, Codes.code-most}
 use Rattle.timeline.proofs.Lengths.{whole-take, length-whole, placed-within, events-few}
-use Rattle.monitor.specs.Told.{packed, told-code, told-rule, told-offset, answer-size, answer-bytes, events-of, Ran}
-use Rattle.monitor.specs.Told.{timeline-packed, told-events, event-at, Unrolled-for}
-use Rattle.monitor.proofs.RunLaws.{counted}
-use Rattle.monitor.proofs.Answers.{open-one}
+use Rattle.monitor.specs.Told.{packed, told-code, told-rule, told-offset, answer-size, answer-bytes, events-of, Ran, timeline-packed, told-events}
+use Rattle.monitor.specs.Told.{event-at, Unrolled-for}
+use Rattle.monitor.proofs.{RunLaws.counted, Answers.open-one}
 
 -- ---- the code that tells it
 

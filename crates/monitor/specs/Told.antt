@@ -1,21 +1,13 @@
 -- What the library's functions promise, over buffers. Definitions only.
 use Prim.Native.Nat.{ℕ, zero, suc, _+_, _*_, _/_, _%_, min}
-use mathlib.Core.Bool.{cond}
-use mathlib.Core.List.{List, [], _∷_}
-use mathlib.Core.Path.{_≡_}
-use lib.Dec.{eqb}
-use lib.ListN.{length, getD, take, drop}
+use mathlib.Core.{Bool.cond, List.{List, [], _∷_}, Path._≡_}
+use lib.{Dec.eqb, ListN.{length, getD, take, drop}}
 use Rattle.octets.specs.Octets.{put}
-use Rattle.records.specs.Sizes.{event-size}
-use Rattle.records.specs.Phone.{joined}
-use Rattle.rules.specs.declared.Answer.{Answer}
-use Rattle.rules.specs.Step.{step, run, answers}
+use Rattle.records.specs.{Sizes.event-size, Phone.joined}
+use Rattle.rules.specs.{declared.Answer.Answer, Step.{step, run, answers}}
 use Rattle.explanations.specs.Why.{Line, line}
-use Rattle.reasons.specs.declared.Why.{Why}
-use Rattle.reasons.specs.Lines.{line-size, with-lines, lines-of, why}
-use Rattle.timeline.specs.declared.Unrolled.{Unrolled}
-use Rattle.timeline.specs.Timeline.{timeline-events}
-use Rattle.timeline.specs.Unrolls.{with-events, unroll}
+use Rattle.reasons.specs.{declared.Why.Why, Lines.{line-size, with-lines, lines-of, why}}
+use Rattle.timeline.specs.{declared.Unrolled.Unrolled, Timeline.timeline-events, Unrolls.{with-events, unroll}}
 
 -- ---- one step
 

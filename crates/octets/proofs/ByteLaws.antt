@@ -1,15 +1,10 @@
 -- Laws of bytes put in place and of numbers read after writing, each over the width. Assumes nothing.
-use mathlib.Core.Path.{_≡_, refl, sym, ap, ap₂, _∙_, subst}
-use mathlib.Core.Bool.{false}
-use mathlib.Core.List.{List, [], _∷_, _++_, append-assoc, append-nil}
+use mathlib.Core.{Path.{_≡_, refl, sym, ap, ap₂, _∙_, subst}, Bool.false, List.{List, [], _∷_, _++_, append-assoc, append-nil}}
 use Prim.Native.Nat.{ℕ, zero, suc, _+_, _-_, _*_, _/_, _%_, _≤_, _<_}
-use native.Mathlib.Nat.{add-zero, zero-add, add-assoc}
-use native.Mathlib.Numerals.{add-one}
-use native.Mathlib.Omega.{arith}
+use native.{Mathlib.Nat.{add-zero, zero-add, add-assoc}, Mathlib.Numerals.add-one, Mathlib.Omega.arith}
 use borrow.Author.Tests.{ne-eqb}
 use lib.Dec.{eqb}
-use lib.ListN.{length, getD, take, drop, set, length-append, length-drop, length-replicate, List·getD-append, take-append-drop}
-use lib.ListN.{replicate-append-replicate}
+use lib.ListN.{length, getD, take, drop, set, length-append, length-drop, length-replicate, List·getD-append, take-append-drop, replicate-append-replicate}
 use lib.Seq.{sets, sets-eq, getD-append-add, getD-drop, getD-take, length-take-le, set-at, drop-cons, take-suc}
 use Rattle.octets.specs.Octets.{be, bytes, put, zeros}
 

@@ -1,28 +1,15 @@
 -- A rule's answer by its parts, in the order of the code. Assumes nothing.
 use Prim.Native.Nat.{ℕ, _≤_, _<_}
-use mathlib.Core.Bool.{Bool, true, false, cond, not, _&&_, _||_, true≢false, false≢true}
-use mathlib.Core.List.{List}
-use mathlib.Core.Logic.{_≢_}
-use mathlib.Core.Path.{_≡_, refl, sym, ap, _∙_}
+use mathlib.Core.{Bool.{Bool, true, false, cond, not, _&&_, _||_, true≢false, false≢true}, List.List, Logic._≢_, Path.{_≡_, refl, sym, ap, _∙_}}
 use native.Mathlib.Omega.{arith}
 use borrow.Author.Tests.{ne-eqb, not-true, not-false, lt-ltb, le-ltb}
-use lib.Dec.{eqb, ltb}
-use lib.ListN.{length}
-use Rattle.records.specs.Phone.{Seen, Phone, no-certificate, no-card, no-executable, no-row}
-use Rattle.records.specs.declared.Certificate.{Certificate}
-use Rattle.records.specs.declared.Card.{Card}
-use Rattle.rules.specs.Words.{_implies_, all}
-use Rattle.rules.specs.declared.Site.{Site}
-use Rattle.rules.specs.declared.Fault.{Fault}
-use Rattle.rules.specs.Effects.{on-a-card}
-use Rattle.rules.specs.ImageRules.{card-owns, operator-of, valid-in, known-place, row-fits, slot-fits, cards-fit, present-known, places-known}
-use Rattle.rules.specs.ImageRules.{i2, i3, i4, i5, i6, i7, i8}
-use Rattle.rules.specs.Parts.{apart, i5-with}
-use Rattle.rules.specs.Faults.{lowest, of-certificates, of-executables, certificate-site, executable-site, i3-site, at-rule, no-fault}
-use Rattle.laws.proofs.Tests.{eq→eqb, or-i, eqb-turn}
-use Rattle.laws.proofs.Lists.{all-in}
-use Rattle.laws.proofs.Accepts.{T-true}
-use Rattle.laws.proofs.More.{all-grows}
+use lib.{Dec.{eqb, ltb}, ListN.length}
+use Rattle.records.specs.{Phone.{Seen, Phone, no-certificate, no-card, no-executable, no-row}, declared.Certificate.Certificate, declared.Card.Card}
+use Rattle.rules.specs.{Words.{_implies_, all}, declared.Site.Site, declared.Fault.Fault, Effects.on-a-card}
+use Rattle.rules.specs.ImageRules.{card-owns, operator-of, valid-in, known-place, row-fits, slot-fits, cards-fit, present-known, places-known, i2, i3, i4, i5}
+use Rattle.rules.specs.ImageRules.{i6, i7, i8}
+use Rattle.rules.specs.{Parts.{apart, i5-with}, Faults.{lowest, of-certificates, of-executables, certificate-site, executable-site, i3-site, at-rule, no-fault}}
+use Rattle.laws.proofs.{Tests.{eq→eqb, or-i, eqb-turn}, Lists.all-in, Accepts.T-true, More.all-grows}
 use Rattle.laws.proofs.RulesGrow.{placed, answer-keeps, i5-spares, places-grow, cards-grow, i4-grows, i5-grows, i7-grows, i8-grows}
 
 -- ---- if the first, then the second

@@ -1,23 +1,13 @@
 -- What is told of an image: the byte of what is wrong, which is that of a record by its number, and the answer. Assumes nothing.
 use Prim.Native.Nat.{ℕ, _+_, _*_, _≤_, _<_}
-use mathlib.Core.Bool.{Bool, true, false, cond}
-use mathlib.Core.List.{List}
-use mathlib.Core.Path.{_≡_, refl, sym, ap, ap₂, _∙_, subst}
+use mathlib.Core.{Bool.{Bool, true, false, cond}, List.List, Path.{_≡_, refl, sym, ap, ap₂, _∙_, subst}}
 use native.Mathlib.Omega.{arith}
-use lib.Dec.{eqb}
-use lib.ListN.{length}
-use Rattle.records.specs.Sizes.{header-size, certificate-size, card-size, executable-size, row-size}
-use Rattle.records.specs.Phone.{decode, cards-at, executables-at, table-at}
+use lib.{Dec.eqb, ListN.length}
+use Rattle.records.specs.{Sizes.{header-size, certificate-size, card-size, executable-size, row-size}, Phone.{decode, cards-at, executables-at, table-at}}
 use Rattle.records.specs.Frame.{framed}
-use Rattle.records.proofs.Said.{length-certificates, length-cards, length-executables}
-use Rattle.records.proofs.FrameFacts.{fields}
-use Rattle.rules.specs.declared.Answer.{Answer}
-use Rattle.rules.specs.declared.Site.{Site}
-use Rattle.rules.specs.declared.Fault.{Fault}
-use Rattle.rules.specs.ImageRules.{accepted, «open»}
-use Rattle.rules.specs.Faults.{offset-of, fault, fault-offset}
-use Rattle.rules.specs.Step.{refused, refused-at}
-use Rattle.rules.specs.FaultNames.{Within}
+use Rattle.records.proofs.{Said.{length-certificates, length-cards, length-executables}, FrameFacts.fields}
+use Rattle.rules.specs.{declared.Answer.Answer, declared.Site.Site, declared.Fault.Fault, ImageRules.{accepted, «open»}}
+use Rattle.rules.specs.{Faults.{offset-of, fault, fault-offset}, Step.{refused, refused-at}, FaultNames.Within}
 use Rattle.laws.proofs.Where.{accepted-no-fault, fault-within, offset-small}
 use Rattle.opening.specs.Opened.{opened}
 

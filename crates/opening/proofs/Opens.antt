@@ -1,22 +1,15 @@
 -- What opening answers: the first broken rule, those before it kept. Assumes nothing.
 use Prim.Native.Nat.{ℕ}
-use mathlib.Core.Bool.{Bool, true, false, cond, not}
-use mathlib.Core.List.{List}
-use mathlib.Core.Path.{_≡_, refl, sym, ap, _∙_}
+use mathlib.Core.{Bool.{Bool, true, false, cond, not}, List.List, Path.{_≡_, refl, sym, ap, _∙_}}
 use native.Mathlib.Omega.{arith}
 use borrow.Author.Tests.{not-true, not-false}
 use Rattle.octets.proofs.ByteLaws.{Bytes}
-use Rattle.records.specs.Phone.{Phone, decode}
-use Rattle.records.specs.Frame.{framed, Framed, header-fault}
+use Rattle.records.specs.{Phone.{Phone, decode}, Frame.{framed, Framed, header-fault}}
 use Rattle.records.proofs.RoundTrip.{frame}
-use Rattle.rules.specs.declared.Site.{Site}
-use Rattle.rules.specs.declared.Fault.{Fault}
-use Rattle.rules.specs.Words.{all, first}
-use Rattle.rules.specs.ImageRules.{row-fits, i2, i3, i4, i5, i6, i7, i8, broken, accepted}
+use Rattle.rules.specs.{declared.Site.Site, declared.Fault.Fault, Words.{all, first}, ImageRules.{row-fits, i2, i3, i4, i5, i6, i7, i8, broken, accepted}}
 use Rattle.rules.specs.Faults.{lowest, certificate-site, executable-site, i3-site, at-rule, no-fault, fault}
-use Rattle.laws.proofs.RulesGrow.{answer-breaks, answer-keeps, answer-at}
+use Rattle.laws.proofs.{RulesGrow.{answer-breaks, answer-keeps, answer-at}, Promise.accepted-image}
 use Rattle.opening.specs.Opened.{Kept, Opened}
-use Rattle.laws.proofs.Promise.{accepted-image}
 
 -- a is what is told of a rule b: nothing, or that it is broken at s
 abbrev Told : Bool → ℕ → Site → Fault → Type 0

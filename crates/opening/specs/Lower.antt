@@ -3,8 +3,7 @@ use Prim.Native.Nat.{ℕ}
 use mathlib.Core.Bool.{Bool}
 use lib.ListN.{take}
 use Rattle.records.specs.Phone.{Phone, certificate-at}
-use Rattle.rules.specs.Words.{all}
-use Rattle.rules.specs.Parts.{i4-with, i5-pair, i5-with}
+use Rattle.rules.specs.{Words.all, Parts.{i4-with, i5-pair, i5-with}}
 
 -- I4 of certificate i
 abbrev pub i4-at : Phone → ℕ → Bool

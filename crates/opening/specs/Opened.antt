@@ -1,15 +1,8 @@
 -- What opening an image tells. Definitions only.
 use Prim.Native.Nat.{ℕ}
-use mathlib.Core.Bool.{true, cond}
-use mathlib.Core.List.{List}
-use mathlib.Core.Path.{_≡_}
-use Rattle.records.specs.Phone.{decode}
-use Rattle.records.specs.Frame.{framed}
-use Rattle.rules.specs.ImageRules.{i2, i3, i4, i5, accepted}
-use Rattle.rules.specs.Faults.{fault}
-use Rattle.rules.specs.declared.Answer.{Answer}
-use Rattle.rules.specs.declared.Fault.{Fault}
-use Rattle.rules.specs.Step.{refused, refused-at}
+use mathlib.Core.{Bool.{true, cond}, List.List, Path._≡_}
+use Rattle.records.specs.{Phone.decode, Frame.framed}
+use Rattle.rules.specs.{ImageRules.{i2, i3, i4, i5, accepted}, Faults.fault, declared.Answer.Answer, declared.Fault.Fault, Step.{refused, refused-at}}
 use Rattle.rules.specs.AcceptedImage.{Accepted-image}
 
 -- "Opening an image .. should also tell the first broken rule, 1 to 8, and a byte offset"

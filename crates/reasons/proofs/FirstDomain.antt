@@ -1,13 +1,10 @@
 -- What a key chains to, by the first domain that it has links in. Assumes nothing.
 use Prim.Native.Nat.{ℕ}
-use mathlib.Core.Bool.{Bool, true, false, not}
-use mathlib.Core.Logic.{_≢_}
-use mathlib.Core.Path.{_≡_, refl, sym, ap, _∙_}
+use mathlib.Core.{Bool.{Bool, true, false, not}, Logic._≢_, Path.{_≡_, refl, sym, ap, _∙_}}
 use native.Mathlib.Omega.{arith}
 use lib.Dec.{T, T-not}
 use Rattle.records.specs.Phone.{Trust}
-use Rattle.rules.specs.Words.{first}
-use Rattle.rules.specs.Chains.{chains-to, chain-domain, links, chain-of}
+use Rattle.rules.specs.{Words.first, Chains.{chains-to, chain-domain, links, chain-of}}
 use Rattle.laws.proofs.Shortest.{chains-signed, chains-chain, chain-chains, links-none}
 
 -- b where it cannot be false, and where it cannot be true

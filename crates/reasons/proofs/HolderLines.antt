@@ -1,14 +1,10 @@
 -- The lines of the records with a key, one a turn: what is left of them shrinks. Assumes nothing.
 use Prim.Native.Nat.{ℕ, suc, _+_, _*_, _-_, _≤_, _<_}
-use mathlib.Core.List.{List, [], map}
-use mathlib.Core.Logic.{_≢_}
-use mathlib.Core.Path.{_≡_, sym, ap, subst, _∙_}
-use native.Mathlib.Nat.{sub-zero}
-use native.Mathlib.Omega.{arith}
+use mathlib.Core.{List.{List, [], map}, Logic._≢_, Path.{_≡_, sym, ap, subst, _∙_}}
+use native.{Mathlib.Nat.sub-zero, Mathlib.Omega.arith}
 use lib.ListN.{length}
 use Rattle.octets.specs.Octets.{put}
-use Rattle.records.specs.Phone.{Trust}
-use Rattle.records.specs.declared.Certificate.{Certificate}
+use Rattle.records.specs.{Phone.Trust, declared.Certificate.Certificate}
 use Rattle.explanations.specs.Why.{line, has-key, lowest, by-id, holders, reason, reason-line}
 use Rattle.reasons.specs.Lines.{line-size, line-bytes, most-lines, holder-lines, Told}
 use Rattle.reasons.proofs.LinesPlaced.{Left, left-all, left-less, left-none, by-id-more, by-id-ends}

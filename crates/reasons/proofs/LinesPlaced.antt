@@ -1,25 +1,17 @@
 -- Lines in a buffer: one after the other, or one before those that stand. Assumes nothing.
 use Prim.Native.Nat.{ℕ, zero, suc, _+_, _*_, _≤_}
-use mathlib.Core.Bool.{Bool}
-use mathlib.Core.List.{List, [], _∷_, _++_, map, reverse, append-assoc, reverse-cons, map-append}
-use mathlib.Core.Logic.{_≢_}
+use mathlib.Core.{Bool.Bool, List.{List, [], _∷_, _++_, map, reverse, append-assoc, reverse-cons, map-append}, Logic._≢_}
 use mathlib.Core.Path.{_≡_, refl, sym, ap, ap₂, subst, _∙_}
-use native.Mathlib.Nat.{zero-add}
-use native.Mathlib.Omega.{arith}
-use lib.Dec.{eqb, eqb→eq}
-use lib.ListN.{length, take, drop, length-append, length-map, length-reverse}
-use lib.Seq.{length-take-le, drop-at}
+use native.{Mathlib.Nat.zero-add, Mathlib.Omega.arith}
+use lib.{Dec.{eqb, eqb→eq}, ListN.{length, take, drop, length-append, length-map, length-reverse}, Seq.{length-take-le, drop-at}}
 use Rattle.octets.specs.Octets.{put}
 use Rattle.octets.proofs.ByteLaws.{put-none, length-put}
-use Rattle.records.specs.Phone.{Trust, joined}
-use Rattle.records.specs.declared.Certificate.{Certificate}
-use Rattle.records.proofs.Joined.{length-joined}
-use Rattle.records.proofs.Puts.{put-next}
+use Rattle.records.specs.{Phone.{Trust, joined}, declared.Certificate.Certificate}
+use Rattle.records.proofs.{Joined.length-joined, Puts.put-next}
 use Rattle.rules.specs.Chains.{serves, good}
 use Rattle.laws.proofs.Tests.{neqb→ne}
 use Rattle.explanations.specs.Why.{Line, link-line, lowest, by-id, climb}
-use Rattle.explanations.proofs.LowestId.{cond-cases}
-use Rattle.explanations.proofs.Climb.{length-climb}
+use Rattle.explanations.proofs.{LowestId.cond-cases, Climb.length-climb}
 use Rattle.reasons.specs.Lines.{line-size, line-bytes, climbed-lines, with-lines, Told}
 
 abbrev bytes-of : List Line → List ℕ

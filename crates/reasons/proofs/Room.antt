@@ -1,25 +1,16 @@
 -- Lines in a buffer of any length: no explanation has more than 64, and where there is room for fewer the first are told. Assumes nothing.
 use Prim.Native.Nat.{ℕ, zero, suc, _+_, _*_, _/_, _≤_, _<_, min}
-use mathlib.Core.Bool.{Bool, true, false, cond, not, _||_, true≢false}
-use mathlib.Core.List.{List, [], _∷_, _++_}
-use mathlib.Core.Logic.{_≢_}
-use mathlib.Core.Path.{_≡_, refl, sym, ap, ap₂, _∙_}
-use native.Mathlib.Nat.{min-zero, suc-min-suc}
-use native.Mathlib.Omega.{arith}
-use lib.Dec.{eqb}
-use lib.ListN.{length, getD, take, drop, set}
-use lib.Seq.{take-nil, take-all, take-suc, take-append-add, take-append-le, length-take-le}
+use mathlib.Core.{Bool.{Bool, true, false, cond, not, _||_, true≢false}, List.{List, [], _∷_, _++_}, Logic._≢_, Path.{_≡_, refl, sym, ap, ap₂, _∙_}}
+use native.{Mathlib.Nat.{min-zero, suc-min-suc}, Mathlib.Omega.arith}
+use lib.{Dec.eqb, ListN.{length, getD, take, drop, set}, Seq.{take-nil, take-all, take-suc, take-append-add, take-append-le, length-take-le}}
 use Rattle.octets.specs.Octets.{put}
 use Rattle.octets.proofs.ByteLaws.{put-more}
 use Rattle.records.specs.Phone.{decode, joined}
 use Rattle.records.proofs.Joined.{length-joined}
-use Rattle.rules.specs.Words.{_⇒_, first}
-use Rattle.rules.specs.ImageRules.{accepted}
-use Rattle.rules.specs.Codes.{executable-known}
+use Rattle.rules.specs.{Words.{_⇒_, first}, ImageRules.accepted, Codes.executable-known}
 use Rattle.explanations.specs.Why.{Line, explanation}
 use Rattle.explanations.proofs.Theorems.{image-lines}
-use Rattle.reasons.specs.declared.Why.{Why}
-use Rattle.reasons.specs.Lines.{line-size, line-bytes, most-lines, with-lines, why-code, lines-of, Whole, Explained}
+use Rattle.reasons.specs.{declared.Why.Why, Lines.{line-size, line-bytes, most-lines, with-lines, why-code, lines-of, Whole, Explained}}
 
 -- ---- a copy, byte by byte
 

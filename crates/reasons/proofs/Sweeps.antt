@@ -1,13 +1,9 @@
 -- What a sweep over the slots from the last down keeps: the lowest of those from slot i on. Assumes nothing.
 use Prim.Native.Nat.{ℕ, _+_, _≤_, _<_}
-use mathlib.Core.Bool.{Bool, true, false, cond, _&&_, _||_}
-use mathlib.Core.List.{List}
-use mathlib.Core.Path.{_≡_, sym, ap, ap₂, subst, _∙_}
+use mathlib.Core.{Bool.{Bool, true, false, cond, _&&_, _||_}, List.List, Path.{_≡_, sym, ap, ap₂, subst, _∙_}}
 use native.Mathlib.Omega.{arith}
-use lib.Dec.{eqb, ltb}
-use lib.ListN.{length, getD, drop, drop-of-length-le}
-use Rattle.records.specs.Phone.{no-certificate}
-use Rattle.records.specs.declared.Certificate.{Certificate}
+use lib.{Dec.{eqb, ltb}, ListN.{length, getD, drop, drop-of-length-le}}
+use Rattle.records.specs.{Phone.no-certificate, declared.Certificate.Certificate}
 use Rattle.rules.specs.Chains.{serves}
 use Rattle.laws.proofs.Loops.{rest}
 use Rattle.explanations.specs.Why.{lowest}

@@ -1,42 +1,24 @@
 -- What is told of an executable, case by case, and what a refusal is told. Assumes nothing.
 use Prim.Native.Nat.{ℕ, _+_, _*_, _≤_}
-use mathlib.Core.Bool.{Bool, true, false, cond, not, _||_}
-use mathlib.Core.List.{List, [], _∷_, _++_, append-nil}
-use mathlib.Core.Logic.{_≢_}
-use mathlib.Core.Path.{_≡_, refl, sym, ap, subst, _∙_}
+use mathlib.Core.{Bool.{Bool, true, false, cond, not, _||_}, List.{List, [], _∷_, _++_, append-nil}, Logic._≢_, Path.{_≡_, refl, sym, ap, subst, _∙_}}
 use native.Mathlib.Omega.{arith}
 use borrow.Author.Tests.{eq-eqb, ne-eqb, not-false}
-use lib.Dec.{eqb}
-use lib.ListN.{length, length-append, getD}
+use lib.{Dec.eqb, ListN.{length, length-append, getD}}
 use Rattle.octets.specs.Octets.{put}
 use Rattle.octets.proofs.ByteLaws.{put-none}
-use Rattle.records.specs.Phone.{Trust, decode, no-executable}
-use Rattle.records.specs.declared.Executable.{Executable}
-use Rattle.rules.specs.declared.Chained.{Chained}
-use Rattle.rules.specs.Words.{any}
-use Rattle.rules.specs.Chains.{chain-domain, links, chain-of, most-links}
-use Rattle.rules.specs.declared.Answer.{Answer}
-use Rattle.rules.specs.declared.Fault.{Fault}
-use Rattle.rules.specs.ImageRules.{accepted}
-use Rattle.rules.specs.ImageRules as ImageRules
-use Rattle.rules.specs.Faults.{fault}
-use Rattle.rules.specs.Step.{refused-at, refusal}
-use Rattle.rules.specs.Codes.{is-executable, executable-named, executable-known}
-use Rattle.laws.proofs.Tests.{eq→eqb, ne→neqb, not-intro}
-use Rattle.laws.proofs.Accepts.{true-T}
-use Rattle.laws.proofs.Shortest.{links-small}
-use Rattle.laws.proofs.Places.{place-named}
+use Rattle.records.specs.{Phone.{Trust, decode, no-executable}, declared.Executable.Executable}
+use Rattle.rules.specs.{declared.Chained.Chained, Words.any, Chains.{chain-domain, links, chain-of, most-links}, declared.Answer.Answer, declared.Fault.Fault}
+use Rattle.rules.specs.{ImageRules.accepted, Faults.fault, Step.{refused-at, refusal}, Codes.{is-executable, executable-named, executable-known}}
 use Rattle.rules.specs.AcceptedImage.{Accepted-image}
-use Rattle.lookup.specs.declared.Found.{Found}
-use Rattle.lookup.specs.RecordFound.{found}
+use Rattle.rules.specs.ImageRules as ImageRules
+use Rattle.laws.proofs.{Tests.{eq→eqb, ne→neqb, not-intro}, Accepts.true-T, Shortest.links-small, Places.place-named}
+use Rattle.lookup.specs.{declared.Found.Found, RecordFound.found}
 use Rattle.lookup.proofs.FoundSlot.{nowhere-none, at-some, at-first}
-use Rattle.explanations.specs.Why.{Line, has-key, chain-told, unsigned-line, unheld-line, untrusted-line}
-use Rattle.explanations.specs.Why.{chained, unsigned, held, despite, explained, explanation}
+use Rattle.explanations.specs.Why.{Line, has-key, chain-told, unsigned-line, unheld-line, untrusted-line, chained, unsigned, held, despite, explained}
+use Rattle.explanations.specs.Why.{explanation}
 use Rattle.explanations.proofs.Cases.{explained-chain, explained-unsigned, explained-unheld, explained-reasons}
-use Rattle.reasons.specs.declared.Why.{Why}
-use Rattle.reasons.specs.Lines.{line-size, line-bytes, climbed-lines, holder-lines, with-lines, Told, why-code, lines-of, Whole}
-use Rattle.reasons.proofs.Rows.{takes, skips, ends, not-is}
-use Rattle.reasons.proofs.LinesPlaced.{length-chain, line-more}
+use Rattle.reasons.specs.{declared.Why.Why, Lines.{line-size, line-bytes, climbed-lines, holder-lines, with-lines, Told, why-code, lines-of, Whole}}
+use Rattle.reasons.proofs.{Rows.{takes, skips, ends, not-is}, LinesPlaced.{length-chain, line-more}}
 
 -- ---- a chain, and what may follow it
 

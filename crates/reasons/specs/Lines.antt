@@ -1,16 +1,10 @@
 -- An explanation in a buffer: three bytes a line. Definitions only.
 use Prim.Native.Nat.{ℕ, _/_}
-use mathlib.Core.Bool.{cond, not, _||_}
-use mathlib.Core.List.{List, [], _∷_, map, reverse}
-use mathlib.Core.Path.{_≡_}
-use lib.Dec.{eqb}
-use lib.ListN.{length, take}
+use mathlib.Core.{Bool.{cond, not, _||_}, List.{List, [], _∷_, map, reverse}, Path._≡_}
+use lib.{Dec.eqb, ListN.{length, take}}
 use Rattle.octets.specs.Octets.{bytes, put}
 use Rattle.records.specs.Phone.{Trust, decode, joined}
-use Rattle.rules.specs.Words.{_⇒_, first}
-use Rattle.rules.specs.ImageRules.{accepted}
-use Rattle.rules.specs.Codes.{executable-known}
-use Rattle.rules.specs.Step.{refusal}
+use Rattle.rules.specs.{Words.{_⇒_, first}, ImageRules.accepted, Codes.executable-known, Step.refusal}
 use Rattle.reasons.specs.declared.Why.{Why}
 use Rattle.explanations.specs.Why.{Line, link-line, reason-line, holders, climb, explanation}
 

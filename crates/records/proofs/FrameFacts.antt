@@ -1,14 +1,11 @@
 -- The frame's test, taken apart into the facts that it tests. Assumes nothing.
-use mathlib.Core.Path.{_≡_, refl}
-use mathlib.Core.Bool.{Bool, true, false, _&&_, false≢true}
-use mathlib.Core.List.{List}
+use mathlib.Core.{Path.{_≡_, refl}, Bool.{Bool, true, false, _&&_, false≢true}, List.List}
 use Prim.Native.Nat.{ℕ, _≤_}
 use borrow.Author.Tests.{eqb-true, leb-true}
-use lib.Dec.{leb}
-use lib.ListN.{length}
+use lib.{Dec.leb, ListN.length}
 use Rattle.records.specs.Sizes.{header-size, image-version, most-certificates, most-cards, most-executables, most-actions, certificates-start}
-use Rattle.records.specs.Phone.{version, certificate-slots, card-count, executable-slots, action-count, header-zero, certificates-at}
-use Rattle.records.specs.Phone.{cards-at, executables-at, table-at, total-length, cards-from, executables-from, table-from, ends-at}
+use Rattle.records.specs.Phone.{version, certificate-slots, card-count, executable-slots, action-count, header-zero, certificates-at, cards-at}
+use Rattle.records.specs.Phone.{executables-at, table-at, total-length, cards-from, executables-from, table-from, ends-at}
 use Rattle.records.specs.Frame.{header-fits, framed}
 
 -- what the test is worth, but for the mode's range

@@ -1,21 +1,16 @@
 -- What each write makes of a framed image: the image of the phone with that one thing changed. Assumes nothing.
-use mathlib.Core.Path.{_≡_, refl, sym, ap, ap₂, _∙_}
-use mathlib.Core.List.{List, _++_}
+use mathlib.Core.{Path.{_≡_, refl, sym, ap, ap₂, _∙_}, List.{List, _++_}}
 use Prim.Native.Nat.{ℕ, _+_, _*_, _≤_, _<_}
 use native.Mathlib.Nat.{add-zero}
-use lib.Dec.{lit≤}
-use lib.ListN.{length, length-set}
+use lib.{Dec.lit≤, ListN.{length, length-set}}
 use Rattle.octets.specs.Octets.{bytes, put, zeros}
-use Rattle.records.specs.declared.Certificate.{Certificate}
-use Rattle.records.specs.declared.Executable.{Executable}
+use Rattle.records.specs.{declared.Certificate.Certificate, declared.Executable.Executable}
 use Rattle.records.specs.Sizes.{certificate-size, executable-size, certificates-start, executables-start}
 use Rattle.records.specs.Layout.{certificate-bytes, card-bytes, executable-bytes, row-bytes}
-use Rattle.records.specs.Phone.{Phone, joined, header-of, header-bytes, encode, decode, executables-at, no-certificate, no-executable}
-use Rattle.records.specs.Phone.{certificate-at, executable-at, with-clock, with-card, with-mode, put-certificate, put-executable, marked}
-use Rattle.records.specs.Phone.{enabling, in-domain, permitted}
+use Rattle.records.specs.Phone.{Phone, joined, header-of, header-bytes, encode, decode, executables-at, no-certificate, no-executable, certificate-at}
+use Rattle.records.specs.Phone.{executable-at, with-clock, with-card, with-mode, put-certificate, put-executable, marked, enabling, in-domain, permitted}
 use Rattle.records.specs.Frame.{Framed}
-use Rattle.records.proofs.Joined.{put-joined}
-use Rattle.records.proofs.Records.{length-certificate, length-executable}
+use Rattle.records.proofs.{Joined.put-joined, Records.{length-certificate, length-executable}}
 use Rattle.records.proofs.ImageParts.{length-header, before-cards, before-executables, length-before-executables, part-executables}
 
 -- ---- bytes put within a record of a phone's image

@@ -1,19 +1,18 @@
 -- Where each part of a phone's image stands, and what is read there. Assumes nothing.
-use mathlib.Core.Path.{_≡_, refl, sym, ap, ap₂, _∙_}
-use mathlib.Core.List.{List, [], _++_, append-assoc, append-nil}
+use mathlib.Core.{Path.{_≡_, refl, sym, ap, ap₂, _∙_}, List.{List, [], _++_, append-assoc, append-nil}}
 use Prim.Native.Nat.{ℕ, _+_, _*_, _<_}
 use lib.ListN.{length, length-append}
 use Rattle.octets.specs.Octets.{be}
 use Rattle.octets.proofs.ByteLaws.{join}
-use Rattle.records.specs.Sizes.{header-size, certificate-size, card-size, executable-size, row-size, certificates-start, cards-start}
-use Rattle.records.specs.Sizes.{executables-start, table-start}
+use Rattle.records.specs.Sizes.{header-size, certificate-size, card-size, executable-size, row-size, certificates-start, cards-start, executables-start}
+use Rattle.records.specs.Sizes.{table-start}
 use Rattle.records.specs.Layout.{certificate-read, certificate-bytes, card-read, card-bytes, executable-read, executable-bytes, row-read, row-bytes}
-use Rattle.records.specs.Phone.{Phone, joined, header-of, header-bytes, encode, certificate-slots, card-count, executable-slots}
-use Rattle.records.specs.Phone.{action-count, standing-mode, card-present, clock-time, cards-at, executables-at, table-at, no-certificate}
-use Rattle.records.specs.Phone.{no-card, no-executable, no-row, certificate-at, card-at, executable-at, row-at}
+use Rattle.records.specs.Phone.{Phone, joined, header-of, header-bytes, encode, certificate-slots, card-count, executable-slots, action-count}
+use Rattle.records.specs.Phone.{standing-mode, card-present, clock-time, cards-at, executables-at, table-at, no-certificate, no-card, no-executable}
+use Rattle.records.specs.Phone.{no-row, certificate-at, card-at, executable-at, row-at}
 use Rattle.records.proofs.Joined.{length-joined, read-joined}
-use Rattle.records.proofs.Records.{length-certificate, length-card, length-executable, length-row, certificate-here, card-here}
-use Rattle.records.proofs.Records.{executable-here, row-here}
+use Rattle.records.proofs.Records.{length-certificate, length-card, length-executable, length-row, certificate-here, card-here, executable-here}
+use Rattle.records.proofs.Records.{row-here}
 
 -- ---- what stands before a part
 

@@ -1,11 +1,8 @@
 -- Laws of tabulated lists, and of records of one size that stand one after the other, over any record. Assumes nothing.
-use mathlib.Core.Path.{_≡_, refl, sym, ap, ap₂, _∙_}
-use mathlib.Core.List.{List, [], _∷_, _++_, append-assoc}
+use mathlib.Core.{Path.{_≡_, refl, sym, ap, ap₂, _∙_}, List.{List, [], _∷_, _++_, append-assoc}}
 use Prim.Native.Nat.{ℕ, zero, suc, _+_, _*_, _≤_, _<_}
-use native.Mathlib.Nat.{add-zero, add-comm, suc-mul, zero-mul, not-suc-le-zero, le-of-suc-le-suc}
-use native.Mathlib.Omega.{arith}
-use lib.ListN.{length, getD, take, drop, set, length-append}
-use lib.Seq.{set-split, set-getD, length-take-le, take-add, drop-drop, drop-cons}
+use native.{Mathlib.Nat.{add-zero, add-comm, suc-mul, zero-mul, not-suc-le-zero, le-of-suc-le-suc}, Mathlib.Omega.arith}
+use lib.{ListN.{length, getD, take, drop, set, length-append}, Seq.{set-split, set-getD, length-take-le, take-add, drop-drop, drop-cons}}
 use Rattle.octets.specs.Octets.{put}
 use Rattle.records.specs.Phone.{joined, tabulate}
 use Rattle.records.proofs.Puts.{put-left, put-right}

@@ -1,11 +1,8 @@
 -- Laws of runs of bytes put in place: within one part of a longer list, and one run after the other. Assumes nothing.
-use mathlib.Core.Path.{_≡_, sym, ap, ap₂, _∙_}
-use mathlib.Core.List.{List, [], _∷_, _++_, append-assoc}
+use mathlib.Core.{Path.{_≡_, sym, ap, ap₂, _∙_}, List.{List, [], _∷_, _++_, append-assoc}}
 use Prim.Native.Nat.{ℕ, _+_, _≤_}
-use native.Mathlib.Nat.{add-zero, zero-add, add-assoc}
-use native.Mathlib.Omega.{arith}
-use lib.ListN.{length, take, drop, length-append}
-use lib.Seq.{length-take-le, take-append-add, drop-append-add, take-append-le, drop-append-le, drop-drop}
+use native.{Mathlib.Nat.{add-zero, zero-add, add-assoc}, Mathlib.Omega.arith}
+use lib.{ListN.{length, take, drop, length-append}, Seq.{length-take-le, take-append-add, drop-append-add, take-append-le, drop-append-le, drop-drop}}
 use Rattle.octets.specs.Octets.{put}
 use Rattle.octets.proofs.ByteLaws.{put-none, length-put}
 use Rattle.records.specs.Phone.{joined}

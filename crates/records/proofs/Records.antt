@@ -1,20 +1,14 @@
 -- Each record is read as it was written, and its bytes are those that it was read from. Assumes nothing.
-use mathlib.Core.Path.{_≡_, refl}
-use mathlib.Core.List.{List, _++_}
+use mathlib.Core.{Path.{_≡_, refl}, List.{List, _++_}}
 use Prim.Native.Nat.{ℕ, zero, suc, _+_, _*_, _/_, _%_, _≤_, _<_}
-use native.Mathlib.Nat.{add-zero, add-assoc}
-use native.Mathlib.Omega.{arith}
+use native.{Mathlib.Nat.{add-zero, add-assoc}, Mathlib.Omega.arith}
 use lib.ListN.{length, getD, take, drop}
 use Rattle.octets.specs.Octets.{be, be8}
 use Rattle.octets.proofs.ByteLaws.{be-skip, join, high, low, Bytes}
-use Rattle.records.specs.declared.Certificate.{Certificate}
-use Rattle.records.specs.declared.Card.{Card}
-use Rattle.records.specs.declared.Executable.{Executable}
-use Rattle.records.specs.declared.Row.{Row}
-use Rattle.records.specs.declared.Event.{Event}
+use Rattle.records.specs.{declared.Certificate.Certificate, declared.Card.Card, declared.Executable.Executable, declared.Row.Row, declared.Event.Event}
 use Rattle.records.specs.Sizes.{certificate-size, card-size, executable-size, row-size, event-size}
-use Rattle.records.specs.Layout.{certificate-read, certificate-bytes, card-read, card-bytes, executable-read, executable-bytes, row-read}
-use Rattle.records.specs.Layout.{row-bytes, row-byte, event-read, event-bytes}
+use Rattle.records.specs.Layout.{certificate-read, certificate-bytes, card-read, card-bytes, executable-read, executable-bytes, row-read, row-bytes}
+use Rattle.records.specs.Layout.{row-byte, event-read, event-bytes}
 use Rattle.records.proofs.Joined.{cells}
 
 -- ---- widths

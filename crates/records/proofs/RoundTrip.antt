@@ -1,28 +1,23 @@
 -- A phone is what its image says, and a framed image is the image of the phone that it says. Assumes nothing.
-use mathlib.Core.Path.{_≡_, refl, sym, ap, ap₂, _∙_}
-use mathlib.Core.Bool.{true}
-use mathlib.Core.List.{List, [], _++_, append-nil}
+use mathlib.Core.{Path.{_≡_, refl, sym, ap, ap₂, _∙_}, Bool.true, List.{List, [], _++_, append-nil}}
 use Prim.Native.Nat.{ℕ, _+_, _*_, _≤_}
 use native.Mathlib.Omega.{arith}
-use lib.ListN.{length, take, drop, length-append, take-append-drop, drop-of-length-le}
-use lib.Seq.{drop-drop}
+use lib.{ListN.{length, take, drop, length-append, take-append-drop, drop-of-length-le}, Seq.drop-drop}
 use Rattle.octets.specs.Octets.{be, bytes}
 use Rattle.octets.proofs.ByteLaws.{Bytes}
 use Rattle.records.specs.Sizes.{header-size, certificate-size, card-size, executable-size, row-size, certificates-start, image-end, largest-image}
 use Rattle.records.specs.Layout.{certificate-read, certificate-bytes, card-read, card-bytes, executable-read, executable-bytes, row-read, row-bytes}
-use Rattle.records.specs.Phone.{Phone, joined, header-of, header-bytes, encode, decode, version, certificate-slots, card-count}
-use Rattle.records.specs.Phone.{executable-slots, action-count, standing-mode, card-present, header-zero, clock-time, certificates-at}
-use Rattle.records.specs.Phone.{cards-at, executables-at, table-at, total-length, cards-from, executables-from, table-from, ends-at}
-use Rattle.records.specs.Phone.{no-certificate, no-card, no-executable, no-row}
+use Rattle.records.specs.Phone.{Phone, joined, header-of, header-bytes, encode, decode, version, certificate-slots, card-count, executable-slots}
+use Rattle.records.specs.Phone.{action-count, standing-mode, card-present, header-zero, clock-time, certificates-at, cards-at, executables-at, table-at}
+use Rattle.records.specs.Phone.{total-length, cards-from, executables-from, table-from, ends-at, no-certificate, no-card, no-executable, no-row}
 use Rattle.records.specs.Frame.{framed, Sized, Framed}
 use Rattle.records.proofs.Joined.{length-joined, tabulate-of, joined-tabulate, cells}
 use Rattle.records.proofs.Records.{length-row, upper, lower, certificate-part, card-part, executable-part, row-part}
 use Rattle.records.proofs.ImageParts.{before-table, length-before-table, part-table, certificate-slots-encode, card-count-encode}
-use Rattle.records.proofs.ImageParts.{executable-slots-encode, action-count-encode, standing-mode-encode, card-present-encode}
-use Rattle.records.proofs.ImageParts.{clock-time-encode, cards-at-encode, executables-at-encode, table-at-encode, certificate-encode}
-use Rattle.records.proofs.ImageParts.{card-encode, executable-encode, row-encode}
-use Rattle.records.proofs.Said.{length-certificates, length-cards, length-executables, length-table}
-use Rattle.records.proofs.FrameFacts.{Fields, fields}
+use Rattle.records.proofs.ImageParts.{executable-slots-encode, action-count-encode, standing-mode-encode, card-present-encode, clock-time-encode}
+use Rattle.records.proofs.ImageParts.{cards-at-encode, executables-at-encode, table-at-encode, certificate-encode, card-encode, executable-encode}
+use Rattle.records.proofs.ImageParts.{row-encode}
+use Rattle.records.proofs.{Said.{length-certificates, length-cards, length-executables, length-table}, FrameFacts.{Fields, fields}}
 
 -- ---- from a phone to its image and back
 

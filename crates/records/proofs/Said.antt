@@ -1,18 +1,16 @@
 -- What bytes say of a phone: how many records of each kind, and each of them where it stands. Assumes nothing.
-use mathlib.Core.Path.{_≡_, sym, ap, _∙_}
-use mathlib.Core.List.{List}
+use mathlib.Core.{Path.{_≡_, sym, ap, _∙_}, List.List}
 use Prim.Native.Nat.{ℕ, _+_, _*_, _<_}
 use native.Mathlib.Omega.{arith}
 use lib.ListN.{length}
 use Rattle.octets.specs.Octets.{be8}
 use Rattle.records.specs.Sizes.{certificate-size, card-size, executable-size, row-size, certificates-start}
 use Rattle.records.specs.Layout.{certificate-read, card-read, executable-read, row-read, row-byte}
-use Rattle.records.specs.Phone.{decode, certificate-slots, card-count, executable-slots, action-count, cards-at, executables-at, table-at}
-use Rattle.records.specs.Phone.{cards-from, executables-from, table-from, no-certificate, no-card, no-executable, no-row, certificate-at}
-use Rattle.records.specs.Phone.{card-at, executable-at, row-at}
+use Rattle.records.specs.Phone.{decode, certificate-slots, card-count, executable-slots, action-count, cards-at, executables-at, table-at, cards-from}
+use Rattle.records.specs.Phone.{executables-from, table-from, no-certificate, no-card, no-executable, no-row, certificate-at, card-at, executable-at}
+use Rattle.records.specs.Phone.{row-at}
 use Rattle.records.specs.Frame.{Framed}
-use Rattle.records.proofs.Joined.{length-tabulate, getD-tabulate}
-use Rattle.records.proofs.Records.{row-byte-read}
+use Rattle.records.proofs.{Joined.{length-tabulate, getD-tabulate}, Records.row-byte-read}
 
 -- ---- how many
 

@@ -1,14 +1,12 @@
 -- The first wrong field of a header, by the fields before it that are right. Assumes nothing.
 use Prim.Native.Nat.{ℕ, _≤_, _<_}
-use mathlib.Core.List.{List}
-use mathlib.Core.Logic.{_≢_}
-use mathlib.Core.Path.{_≡_}
+use mathlib.Core.{List.List, Logic._≢_, Path._≡_}
 use lib.ListN.{length}
 use native.Mathlib.Omega.{arith}
 use borrow.Author.Tests.{eq-eqb, ne-eqb, le-leb, lt-leb}
 use Rattle.records.specs.Sizes.{header-size, image-version, most-certificates, most-cards, most-executables, most-actions, certificates-start}
-use Rattle.records.specs.Phone.{version, certificate-slots, card-count, executable-slots, action-count, standing-mode, header-zero}
-use Rattle.records.specs.Phone.{certificates-at, cards-at, executables-at, table-at, cards-from, executables-from, table-from}
+use Rattle.records.specs.Phone.{version, certificate-slots, card-count, executable-slots, action-count, standing-mode, header-zero, certificates-at}
+use Rattle.records.specs.Phone.{cards-at, executables-at, table-at, cards-from, executables-from, table-from}
 use Rattle.records.specs.Frame.{part-fields, setting-fields, total-byte, first-wrong, header-fault}
 
 module _ (l : List ℕ) where

@@ -1,15 +1,12 @@
 -- The frame of an image: rule I1 as a test, and what it is worth. Definitions only.
 use Prim.Native.Nat.{ℕ, _≤_}
-use mathlib.Core.Bool.{Bool, cond, _&&_}
-use mathlib.Core.List.{List, [], _∷_}
-use mathlib.Core.Path.{_≡_}
-use lib.ListN.{length}
-use lib.Dec.{eqb, leb}
+use mathlib.Core.{Bool.{Bool, cond, _&&_}, List.{List, [], _∷_}, Path._≡_}
+use lib.{ListN.length, Dec.{eqb, leb}}
 use Rattle.records.specs.Sizes.{Sizes, newest, header-size, most-certificates, most-cards, most-executables, most-actions, highest-mode}
 use Rattle.records.specs.Sizes.{certificates-start, cards-start, executables-start, table-start, image-end}
 use Rattle.records.specs.Phone.{Phone, version, certificate-slots, card-count, executable-slots, action-count, standing-mode, header-zero}
-use Rattle.records.specs.Phone.{certificates-at, cards-at, executables-at, table-at, total-length}
-use Rattle.records.specs.Phone.{cards-from-by, executables-from-by, table-from-by, ends-at-by, decode, encode}
+use Rattle.records.specs.Phone.{certificates-at, cards-at, executables-at, table-at, total-length, cards-from-by, executables-from-by, table-from-by}
+use Rattle.records.specs.Phone.{ends-at-by, decode, encode}
 
 -- I1, the first sentence's fields in their order;
 -- "Parts follow each other with no gap in that order, certificates at 40. The total is the table's end and the buffer's length."

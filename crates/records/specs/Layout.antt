@@ -3,11 +3,7 @@ use Prim.Native.Nat.{ℕ, _+_}
 use mathlib.Core.List.{List, _++_}
 use lib.ListN.{getD}
 use Rattle.octets.specs.Octets.{be8, be16, be32, bytes}
-use Rattle.records.specs.declared.Certificate.{Certificate}
-use Rattle.records.specs.declared.Card.{Card}
-use Rattle.records.specs.declared.Executable.{Executable}
-use Rattle.records.specs.declared.Row.{Row}
-use Rattle.records.specs.declared.Event.{Event}
+use Rattle.records.specs.{declared.Certificate.Certificate, declared.Card.Card, declared.Executable.Executable, declared.Row.Row, declared.Event.Event}
 
 -- "u16 id, u16 place, u8 kind, u8 domain, u8 mark and u8 enabled, u32 key, verifying key, owner, expiry": the certificate whose first byte is at a
 abbrev pub certificate-read : List ℕ → ℕ → Certificate

@@ -3,13 +3,9 @@ use Prim.Native.Nat.{ℕ, zero, suc, _+_, _*_}
 use mathlib.Core.List.{List, [], _∷_, _++_}
 use lib.ListN.{length, getD, set}
 use Rattle.octets.specs.Octets.{be16, be32, bytes}
-use Rattle.records.specs.declared.Certificate.{Certificate}
-use Rattle.records.specs.declared.Card.{Card}
-use Rattle.records.specs.declared.Executable.{Executable}
-use Rattle.records.specs.declared.Row.{Row}
-use Rattle.records.specs.Sizes.{Sizes, newest, image-version, certificate-size, card-size, row-size}
-use Rattle.records.specs.Sizes.{cards-start-by, executables-start-by, table-start-by, image-end-by}
-use Rattle.records.specs.Sizes.{certificates-start, cards-start, executables-start, table-start, image-end}
+use Rattle.records.specs.{declared.Certificate.Certificate, declared.Card.Card, declared.Executable.Executable, declared.Row.Row}
+use Rattle.records.specs.Sizes.{Sizes, newest, image-version, certificate-size, card-size, row-size, cards-start-by, executables-start-by, table-start-by}
+use Rattle.records.specs.Sizes.{image-end-by, certificates-start, cards-start, executables-start, table-start, image-end}
 use Rattle.records.specs.Layout.{certificate-read, certificate-bytes, card-read, card-bytes, executable-read, executable-bytes, row-read, row-bytes}
 
 -- ---- the phone, split by what depends on what

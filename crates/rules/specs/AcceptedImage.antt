@@ -1,12 +1,7 @@
 -- What is known of an accepted image, beside that it is one: what code asks before it goes by it. Definitions only.
 use Prim.Native.Nat.{ℕ, _≤_}
-use mathlib.Core.Bool.{true}
-use mathlib.Core.List.{List, List·Memᴰ}
-use mathlib.Core.Logic.{_≢_}
-use mathlib.Core.Path.{_≡_}
-use Rattle.records.specs.Phone.{Trust, decode, certificate-at, executable-at}
-use Rattle.records.specs.Frame.{Framed}
-use Rattle.records.specs.declared.Certificate.{Certificate}
+use mathlib.Core.{Bool.true, List.{List, List·Memᴰ}, Logic._≢_, Path._≡_}
+use Rattle.records.specs.{Phone.{Trust, decode, certificate-at, executable-at}, Frame.Framed, declared.Certificate.Certificate}
 use Rattle.rules.specs.ImageRules.{accepted}
 
 -- I2 and I4 of keys: a key's records are of one domain, 1 to 3

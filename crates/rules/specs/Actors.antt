@@ -2,8 +2,7 @@
 use Prim.Native.Nat.{ℕ}
 use mathlib.Core.Bool.{Bool, false, not, _&&_, _||_}
 use lib.Dec.{eqb}
-use Rattle.records.specs.declared.Certificate.{Certificate}
-use Rattle.records.specs.declared.Event.{Event}
+use Rattle.records.specs.{declared.Certificate.Certificate, declared.Event.Event}
 use Rattle.rules.specs.Words.{between}
 
 -- "Kinds 5–8 go by the certificate's domain: operator 2, manufacturer 3"; third party as the kind says

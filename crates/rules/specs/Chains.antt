@@ -1,12 +1,9 @@
 -- 01, "Chains". Definitions only.
 use Prim.Native.Nat.{ℕ, zero, suc}
-use mathlib.Core.Bool.{Bool, false, cond, not, _&&_, _||_}
-use mathlib.Core.List.{[], _∷_}
+use mathlib.Core.{Bool.{Bool, false, cond, not, _&&_, _||_}, List.{[], _∷_}}
 use lib.Dec.{eqb, leb}
-use Rattle.records.specs.Phone.{Seen, Trust}
-use Rattle.records.specs.declared.Certificate.{Certificate}
-use Rattle.rules.specs.declared.Chained.{Chained}
-use Rattle.rules.specs.Words.{any, least, first, _⇒_}
+use Rattle.records.specs.{Phone.{Seen, Trust}, declared.Certificate.Certificate}
+use Rattle.rules.specs.{declared.Chained.Chained, Words.{any, least, first, _⇒_}}
 
 -- "A record is present if its place is 0 or the present card."
 unfoldable pub present : Seen → Certificate → Bool

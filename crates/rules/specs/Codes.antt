@@ -1,21 +1,13 @@
 -- 01, "What an event is told": a test for each code, and their order. Definitions only.
 use Prim.Native.Nat.{ℕ}
-use mathlib.Core.Bool.{Bool, cond, not, _&&_, _||_}
-use mathlib.Core.List.{List, [], _∷_}
-use lib.Dec.{eqb, ltb}
-use lib.ListN.{length}
+use mathlib.Core.{Bool.{Bool, cond, not, _&&_, _||_}, List.{List, [], _∷_}}
+use lib.{Dec.{eqb, ltb}, ListN.length}
 use Rattle.bits.specs.Bits.{has-bit}
-use Rattle.records.specs.Sizes.{event-size}
-use Rattle.records.specs.Layout.{row-byte, event-read}
-use Rattle.records.specs.Phone.{Seen, Phone, decode, no-certificate, no-executable, row-at}
-use Rattle.records.specs.declared.Certificate.{Certificate}
-use Rattle.records.specs.declared.Executable.{Executable}
-use Rattle.records.specs.declared.Event.{Event}
-use Rattle.rules.specs.Words.{between, any, find, Check, _⇒_, first}
-use Rattle.rules.specs.Chains.{present, in-date, valid-root}
+use Rattle.records.specs.{Sizes.event-size, Layout.{row-byte, event-read}, Phone.{Seen, Phone, decode, no-certificate, no-executable, row-at}}
+use Rattle.records.specs.{declared.Certificate.Certificate, declared.Executable.Executable, declared.Event.Event}
+use Rattle.rules.specs.{Words.{between, any, find, Check, _⇒_, first}, Chains.{present, in-date, valid-root}}
 use Rattle.rules.specs.ImageRules.{accepted, free-certificate, free-executable, known-place, operator-of, operator-root, third-party-root}
-use Rattle.rules.specs.Actors.{may-act, acts-for}
-use Rattle.rules.specs.Forms.{new-certificate, listed, malformed}
+use Rattle.rules.specs.{Actors.{may-act, acts-for}, Forms.{new-certificate, listed, malformed}}
 
 -- ---- the records that an event names
 

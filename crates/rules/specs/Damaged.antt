@@ -1,13 +1,9 @@
 -- Damaged images and where they are said to be wrong, computed. Assumes nothing.
 use Prim.Native.Nat.{ℕ}
-use mathlib.Core.List.{List, [], _∷_, _++_, map}
-use mathlib.Core.Path.{_≡_, refl}
+use mathlib.Core.{List.{List, [], _∷_, _++_, map}, Path.{_≡_, refl}}
 use lib.ListN.{take, drop}
 use Rattle.octets.specs.Octets.{put}
-use Rattle.rules.specs.declared.Site.{Site}
-use Rattle.rules.specs.Computing.{computing}
-use Rattle.rules.specs.WorkedRun.{image}
-use Rattle.rules.specs.Faults.{fault, fault-offset}
+use Rattle.rules.specs.{declared.Site.Site, Computing.computing, WorkedRun.image, Faults.{fault, fault-offset}}
 
 -- an image, and what is told of it: rule, site, byte
 record Case : Type 0 where

@@ -1,13 +1,9 @@
 -- What the three demands speak of: grants, and the events that withdraw and that give. Definitions only.
 use Prim.Native.Nat.{ℕ}
-use mathlib.Core.Bool.{Bool, not, _&&_, _||_}
-use mathlib.Core.List.{List}
+use mathlib.Core.{Bool.{Bool, not, _&&_, _||_}, List.List}
 use lib.Dec.{eqb}
-use Rattle.records.specs.Layout.{event-bytes}
-use Rattle.records.specs.Phone.{Phone}
-use Rattle.records.specs.declared.Event.{Event}
-use Rattle.rules.specs.Codes.{certificate-named, code}
-use Rattle.rules.specs.Effects.{on-a-card}
+use Rattle.records.specs.{Layout.event-bytes, Phone.Phone, declared.Event.Event}
+use Rattle.rules.specs.{Codes.{certificate-named, code}, Effects.on-a-card}
 
 -- kind 15 by actor 0: "id, second = action"
 abbrev pub request-event : ℕ → ℕ → Event

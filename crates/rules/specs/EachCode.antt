@@ -1,16 +1,10 @@
 -- 01, "What an event is told", and 02, items 4, 5 and 7: for each part of each row from code 2 on, an event that just gets the code beside one that just
 -- does not, computed from its bytes. Assumes nothing.
 use Prim.Native.Nat.{ℕ}
-use mathlib.Core.Bool.{true}
-use mathlib.Core.List.{List, [], _∷_, _++_, map}
-use mathlib.Core.Path.{_≡_, refl}
+use mathlib.Core.{Bool.true, List.{List, [], _∷_, _++_, map}, Path.{_≡_, refl}}
 use Rattle.octets.specs.Octets.{bytes, put}
 use Rattle.records.specs.Phone.{decode}
-use Rattle.rules.specs.Words.{first}
-use Rattle.rules.specs.ImageRules.{accepted}
-use Rattle.rules.specs.Codes.{event-rows}
-use Rattle.rules.specs.Step.{run}
-use Rattle.rules.specs.Computing.{computing}
+use Rattle.rules.specs.{Words.first, ImageRules.accepted, Codes.event-rows, Step.run, Computing.computing}
 
 -- ---- three phones at clock 100 with a given card present: each has a free certificate slot, and cards 1 and 2 of operators 5 and 6
 

@@ -1,20 +1,14 @@
 -- 01, "Events": what an accepted event does to the phone. Definitions only.
 use Prim.Native.Nat.{ℕ}
-use mathlib.Core.Bool.{Bool, cond, not, _&&_, _||_}
-use mathlib.Core.List.{List, [], _∷_, map}
-use lib.Dec.{eqb}
-use lib.ListN.{getD}
+use mathlib.Core.{Bool.{Bool, cond, not, _&&_, _||_}, List.{List, [], _∷_, map}}
+use lib.{Dec.eqb, ListN.getD}
 use Rattle.bits.specs.Bits.{set-bit, clear-bit}
-use Rattle.records.specs.Phone.{Trust, Phone, no-certificate, no-executable, with-clock, with-card, with-mode, with-certificates}
-use Rattle.records.specs.Phone.{with-executables, marked, enabling, in-domain, permitted}
-use Rattle.records.specs.declared.Certificate.{Certificate}
-use Rattle.records.specs.declared.Executable.{Executable}
-use Rattle.records.specs.declared.Event.{Event}
-use Rattle.rules.specs.Words.{any, at, change, fill}
-use Rattle.rules.specs.Chains.{chains-to, chain-of}
+use Rattle.records.specs.Phone.{Trust, Phone, no-certificate, no-executable, with-clock, with-card, with-mode, with-certificates, with-executables, marked}
+use Rattle.records.specs.Phone.{enabling, in-domain, permitted}
+use Rattle.records.specs.{declared.Certificate.Certificate, declared.Executable.Executable, declared.Event.Event}
+use Rattle.rules.specs.{Words.{any, at, change, fill}, Chains.{chains-to, chain-of}}
 use Rattle.rules.specs.ImageRules.{free-certificate, free-executable, operator-of, operator-root, third-party-root, has-valid-operator}
-use Rattle.rules.specs.Forms.{new-certificate, listed}
-use Rattle.rules.specs.Codes.{has-id, is-executable, certificate-named}
+use Rattle.rules.specs.{Forms.{new-certificate, listed}, Codes.{has-id, is-executable, certificate-named}}
 
 -- an operator root on the phone
 abbrev pub phone-operator-root : Certificate → Bool

@@ -1,11 +1,8 @@
 -- A chain as a list of records, for whoever would rather see it than count links. Definitions only.
 use Prim.Native.Nat.{ℕ, _≤_}
-use mathlib.Core.List.{List, [], _∷_, List·Memᴰ}
-use mathlib.Core.Path.{_≡_}
-use lib.Dec.{T}
-use lib.ListN.{length}
-use Rattle.records.specs.Phone.{Trust}
-use Rattle.records.specs.declared.Certificate.{Certificate}
+use mathlib.Core.{List.{List, [], _∷_, List·Memᴰ}, Path._≡_}
+use lib.{Dec.T, ListN.length}
+use Rattle.records.specs.{Phone.Trust, declared.Certificate.Certificate}
 use Rattle.rules.specs.Chains.{trusted-root, link}
 
 -- a trusted root of domain d with the key k

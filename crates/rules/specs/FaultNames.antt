@@ -1,16 +1,9 @@
 -- 02, item 1: what is said of the place that a fault names. Definitions only.
 use Prim.Native.Nat.{ℕ, suc, _≤_, _<_}
-use mathlib.Core.Bool.{Bool, true, false}
-use mathlib.Core.List.{List, [], _∷_, _++_}
-use mathlib.Core.Logic.{_⊎_}
-use mathlib.Core.Path.{_≡_}
+use mathlib.Core.{Bool.{Bool, true, false}, List.{List, [], _∷_, _++_}, Logic._⊎_, Path._≡_}
 use lib.ListN.{length, take}
-use Rattle.records.specs.Sizes.{header-size}
-use Rattle.records.specs.Phone.{decode}
-use Rattle.records.specs.Frame.{Field, _right-if_, framed, header-fields, total-field}
-use Rattle.rules.specs.declared.Site.{Site}
-use Rattle.rules.specs.Words.{all}
-use Rattle.rules.specs.ImageRules.{i1, i2, i3, i4, i5, i6, i7, i8, cards-fit, present-known, places-known}
+use Rattle.records.specs.{Sizes.header-size, Phone.decode, Frame.{Field, _right-if_, framed, header-fields, total-field}}
+use Rattle.rules.specs.{declared.Site.Site, Words.all, ImageRules.{i1, i2, i3, i4, i5, i6, i7, i8, cards-fit, present-known, places-known}}
 
 -- the rules of an image, I1 first
 abbrev pub rules : List ℕ → List Bool

@@ -1,15 +1,10 @@
 -- 02, item 1: the first broken rule of an image, and where it is broken. Definitions only.
 use Prim.Native.Nat.{ℕ, zero, suc}
-use mathlib.Core.Bool.{Bool, cond, not}
-use mathlib.Core.List.{List, [], _∷_}
+use mathlib.Core.{Bool.{Bool, cond, not}, List.{List, [], _∷_}}
 use lib.ListN.{length, getD, take}
 use Rattle.records.specs.Phone.{Phone, decode, with-certificates, with-executables, certificate-offset, card-offset, executable-offset, row-offset}
-use Rattle.records.specs.Frame.{header-fault}
-use Rattle.records.specs.declared.Certificate.{Certificate}
-use Rattle.records.specs.declared.Executable.{Executable}
-use Rattle.rules.specs.declared.Site.{Site}
-use Rattle.rules.specs.declared.Fault.{Fault}
-use Rattle.rules.specs.Words.{all}
+use Rattle.records.specs.{Frame.header-fault, declared.Certificate.Certificate, declared.Executable.Executable}
+use Rattle.rules.specs.{declared.Site.Site, declared.Fault.Fault, Words.all}
 use Rattle.rules.specs.ImageRules.{cards-fit, present-known, places-known, row-fits, i2, i4, i5, i7, i8, broken}
 
 -- the first number below n that passes, and n where none does

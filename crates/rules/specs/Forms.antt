@@ -1,14 +1,9 @@
 -- 01, "Events": the fields of each kind. Definitions only.
 use Prim.Native.Nat.{ℕ, _/_, _%_}
-use mathlib.Core.Bool.{Bool, false, cond, not, _&&_, _||_}
-use mathlib.Core.List.{List, [], _∷_}
-use lib.Dec.{eqb, leb, ltb}
-use lib.ListN.{length, getD, take, drop}
-use Rattle.records.specs.Phone.{Phone}
-use Rattle.records.specs.declared.Certificate.{Certificate}
-use Rattle.records.specs.declared.Event.{Event}
-use Rattle.rules.specs.Words.{between, all, all-zero}
-use Rattle.rules.specs.ImageRules.{certificate-fits}
+use mathlib.Core.{Bool.{Bool, false, cond, not, _&&_, _||_}, List.{List, [], _∷_}}
+use lib.{Dec.{eqb, leb, ltb}, ListN.{length, getD, take, drop}}
+use Rattle.records.specs.{Phone.Phone, declared.Certificate.Certificate, declared.Event.Event}
+use Rattle.rules.specs.{Words.{between, all, all-zero}, ImageRules.certificate-fits}
 
 -- kind 5: "id, second = place, third = kind, fourth = domain, all four u32"; "A third party root gets mark 1, enabled 1 exactly if the standing mode
 -- is 1; other roots get mark 0"; an issued record gets 1 and 1, a recovery record 0 and 1 (I2)

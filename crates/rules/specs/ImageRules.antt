@@ -1,17 +1,10 @@
 -- 01, "The image": the image rules, checked in this order. Definitions only.
 use Prim.Native.Nat.{ℕ, _^_}
-use mathlib.Core.Bool.{Bool, cond, not, _&&_, _||_}
-use mathlib.Core.List.{List, [], _∷_, map}
-use lib.Dec.{eqb, leb, ltb}
-use lib.ListN.{length}
-use Rattle.records.specs.Phone.{Seen, Trust, Phone, decode, no-card}
-use Rattle.records.specs.Frame.{framed}
-use Rattle.records.specs.declared.Certificate.{Certificate}
-use Rattle.records.specs.declared.Card.{Card}
-use Rattle.records.specs.declared.Executable.{Executable}
-use Rattle.records.specs.declared.Row.{Row}
-use Rattle.rules.specs.Words.{between, _implies_, any, all, all-pairs, distinct, all-zero, find, Check, _⇒_, first}
-use Rattle.rules.specs.Chains.{valid-root, chains-to}
+use mathlib.Core.{Bool.{Bool, cond, not, _&&_, _||_}, List.{List, [], _∷_, map}}
+use lib.{Dec.{eqb, leb, ltb}, ListN.length}
+use Rattle.records.specs.{Phone.{Seen, Trust, Phone, decode, no-card}, Frame.framed, declared.Certificate.Certificate, declared.Card.Card}
+use Rattle.records.specs.{declared.Executable.Executable, declared.Row.Row}
+use Rattle.rules.specs.{Words.{between, _implies_, any, all, all-pairs, distinct, all-zero, find, Check, _⇒_, first}, Chains.{valid-root, chains-to}}
 
 -- ---- words of the rules
 

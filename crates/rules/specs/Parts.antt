@@ -1,12 +1,8 @@
 -- What the image rules ask of one more record beside those below it, by which the lowest that breaks a rule is looked for. Definitions only.
 use Prim.Native.Nat.{ℕ}
-use mathlib.Core.Bool.{Bool, not, _&&_, _||_}
-use mathlib.Core.List.{List}
+use mathlib.Core.{Bool.{Bool, not, _&&_, _||_}, List.List}
 use lib.Dec.{eqb}
-use Rattle.records.specs.Phone.{Seen}
-use Rattle.records.specs.declared.Certificate.{Certificate}
-use Rattle.records.specs.declared.Card.{Card}
-use Rattle.records.specs.declared.Executable.{Executable}
+use Rattle.records.specs.{Phone.Seen, declared.Certificate.Certificate, declared.Card.Card, declared.Executable.Executable}
 use Rattle.rules.specs.Words.{all}
 use Rattle.rules.specs.ImageRules.{card-fits, key-of-one-domain, card-owns, one-in-place, not-both, owned-by-card, one-manufacturer, executable-slot-fits}
 

@@ -1,16 +1,9 @@
 -- One event on an image, and a run of them: bytes in, answers and bytes out, for every input. Definitions only.
 use Prim.Native.Nat.{ℕ}
-use mathlib.Core.Bool.{cond, _||_}
-use mathlib.Core.List.{List, [], _∷_}
+use mathlib.Core.{Bool.{cond, _||_}, List.{List, [], _∷_}}
 use lib.Dec.{eqb}
-use Rattle.records.specs.Layout.{event-read}
-use Rattle.records.specs.Phone.{Phone, decode, encode}
-use Rattle.records.specs.declared.Event.{Event}
-use Rattle.rules.specs.declared.Answer.{Answer}
-use Rattle.rules.specs.Faults.{fault, fault-offset}
-use Rattle.rules.specs.Chains.{links}
-use Rattle.rules.specs.Codes.{executable-named, code}
-use Rattle.rules.specs.Effects.{changed}
+use Rattle.records.specs.{Layout.event-read, Phone.{Phone, decode, encode}, declared.Event.Event}
+use Rattle.rules.specs.{declared.Answer.Answer, Faults.{fault, fault-offset}, Chains.links, Codes.{executable-named, code}, Effects.changed}
 
 -- "Every code other than 0 gives domain 0 and links 0"
 abbrev pub refused : ℕ → Answer

@@ -1,13 +1,8 @@
 -- 01's two lists of events, computed: for each of the sixteen kinds whether it withdraws and whether it gives. Assumes nothing.
 use Prim.Native.Nat.{ℕ}
-use mathlib.Core.Bool.{Bool, true, false}
-use mathlib.Core.List.{List, [], _∷_, map}
-use mathlib.Core.Path.{_≡_, refl}
-use Rattle.records.specs.Phone.{Phone}
-use Rattle.records.specs.declared.Certificate.{Certificate}
-use Rattle.records.specs.declared.Event.{Event}
-use Rattle.rules.specs.Demands.{withdrawing, giving}
-use Rattle.rules.specs.Computing.{computing}
+use mathlib.Core.{Bool.{Bool, true, false}, List.{List, [], _∷_, map}, Path.{_≡_, refl}}
+use Rattle.records.specs.{Phone.Phone, declared.Certificate.Certificate, declared.Event.Event}
+use Rattle.rules.specs.{Demands.{withdrawing, giving}, Computing.computing}
 
 -- an event with a kind, an id and a mode, which is all that the lists look at
 abbrev event : ℕ → ℕ → ℕ → Event

@@ -1,7 +1,6 @@
 -- The few words that the rules are written with. Definitions only.
 use Prim.Native.Nat.{ℕ, zero, suc, _+_}
-use mathlib.Core.Bool.{Bool, true, false, cond, not, _&&_, _||_}
-use mathlib.Core.List.{List, [], _∷_, map}
+use mathlib.Core.{Bool.{Bool, true, false, cond, not, _&&_, _||_}, List.{List, [], _∷_, map}}
 use lib.Dec.{leb, eqb}
 
 -- lo ≤ n ≤ hi

@@ -1,16 +1,10 @@
 -- 02, item 4: a lost key replaced on the phone of 01's run, computed from bytes. Assumes nothing.
 use Prim.Native.Nat.{ℕ}
-use mathlib.Core.Bool.{true}
-use mathlib.Core.List.{List, [], _∷_}
-use mathlib.Core.Path.{_≡_, refl}
+use mathlib.Core.{List.{List, [], _∷_}, Path.{_≡_, refl}}
 use lib.ListN.{take}
 use Rattle.octets.specs.Octets.{bytes}
 use Rattle.records.specs.Phone.{decode, certificate-at}
-use Rattle.rules.specs.declared.Answer.{Answer}
-use Rattle.rules.specs.ImageRules.{accepted}
-use Rattle.rules.specs.Step.{run, answers}
-use Rattle.rules.specs.Computing.{computing}
-use Rattle.rules.specs.WorkedRun.{image}
+use Rattle.rules.specs.{declared.Answer.Answer, Step.{run, answers}, Computing.computing, WorkedRun.image}
 
 -- executable 1 asks for action 1; recovery record 40 is installed beside root 10; the root is replaced with it; executable 1 asks and is verified;
 -- certificate 11, issued under the old key, is deleted and issued anew under the new one; executable 1 is verified and asks; then a replace with the
@@ -49,7 +43,3 @@ pub recovery-installed : certificate-at (decode (run image (take 2 events))) 3
     ≡ record { id = 40; place = 0; kind = 2; domain = 1; mark = 0; enabled = 1; key = 4000; verifying = 0; owner = 500; expiry = 0 }
 unfolding computing
 recovery-installed = refl
-
-pub stays-accepted : accepted (run image events) ≡ true
-unfolding computing
-stays-accepted = refl

@@ -1,17 +1,13 @@
 -- Texts put one behind the other are one text, and how long they are at most. Assumes nothing.
 use Prim.Native.Nat.{ℕ, _+_, _≤_}
-use mathlib.Core.List.{List, [], _∷_, _++_}
-use mathlib.Core.Path.{_≡_, sym, ap, ap₂, _∙_}
-use native.Mathlib.Nat.{add-zero, zero-add}
-use native.Mathlib.Omega.{arith}
+use mathlib.Core.{List.{List, [], _∷_, _++_}, Path.{_≡_, sym, ap, ap₂, _∙_}}
+use native.{Mathlib.Nat.{add-zero, zero-add}, Mathlib.Omega.arith}
 use lib.ListN.{length, length-append}
 use Rattle.octets.specs.Octets.{put}
 use Rattle.octets.proofs.ByteLaws.{put-none, length-put}
 use Rattle.records.proofs.Puts.{put-next}
-use Rattle.stream.specs.Decimal.{most-digits, decimal, column}
+use Rattle.stream.specs.{Decimal.{most-digits, decimal, column}, PrintedLines.{line, longest-line}, Refusal.{image-one, image-refused, longest-refusal}}
 use Rattle.rules.specs.declared.Answer.{Answer}
-use Rattle.stream.specs.PrintedLines.{line, longest-line}
-use Rattle.stream.specs.Refusal.{image-one, image-refused, longest-refusal}
 use Rattle.stream.proofs.Texts.{decimal-small}
 
 -- a text put at i makes l into s, and ends at j

@@ -1,10 +1,8 @@
 -- Where a line goes there is room for it, and it ends within the buffer. Assumes nothing.
 use Prim.Native.Nat.{ℕ, _+_, _≤_}
-use mathlib.Core.Path.{_≡_}
-use mathlib.Core.Bool.{Bool, true, false, cond}
+use mathlib.Core.{Path._≡_, Bool.{Bool, true, false, cond}}
 use native.Mathlib.Omega.{arith}
-use lib.Dec.{T, leb, leb→le}
-use lib.ListN.{length}
+use lib.{Dec.{T, leb, leb→le}, ListN.length}
 use Rattle.rules.specs.declared.Answer.{Answer}
 use Rattle.stream.specs.PrintedLines.{line, longest-line, line-place}
 use Rattle.stream.proofs.JoinedTexts.{line-ends}

@@ -1,16 +1,10 @@
 -- Laws of text: a copy is a run of bytes put in place, and how many digits a number has. Assumes nothing.
 use Prim.Native.Nat.{ℕ, zero, suc, _+_, _-_, _*_, _^_, _/_, _%_, _≤_, _<_}
-use mathlib.Core.Bool.{Bool, true, false, cond}
-use mathlib.Core.List.{List, [], _∷_, _++_}
-use mathlib.Core.Path.{_≡_, refl, subst, ap, _∙_}
+use mathlib.Core.{Bool.{Bool, true, false, cond}, List.{List, [], _∷_, _++_}, Path.{_≡_, refl, subst, ap, _∙_}}
 use native.Mathlib.Nat.{le-refl, le-trans, zero-lt-suc, pow-suc, one-le-pow, pow-le-pow-right, mul-le-mul-right, le-div-iff-mul-le, div-lt-iff-lt-mul}
-use native.Mathlib.Numerals.{unary-clauses}
-use native.Mathlib.Omega.{arith}
-use native.Mathlib.Decide.{decLe}
+use native.{Mathlib.Numerals.unary-clauses, Mathlib.Omega.arith, Mathlib.Decide.decLe}
 use borrow.Author.Tests.{lt-ltb, le-ltb}
-use lib.Dec.{ltb}
-use lib.ListN.{length, take, drop, length-append}
-use lib.Seq.{paste, take-all}
+use lib.{Dec.ltb, ListN.{length, take, drop, length-append}, Seq.{paste, take-all}}
 use Rattle.io.specs.Digits.{digits, glyph, Fewest}
 use Rattle.octets.specs.Octets.{put}
 use Rattle.stream.specs.Decimal.{most-digits, places-within, decimal}

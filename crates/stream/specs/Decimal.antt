@@ -1,7 +1,6 @@
 -- A number as text. Definitions only.
 use Prim.Native.Nat.{ℕ, zero, suc, _/_}
-use mathlib.Core.Bool.{cond}
-use mathlib.Core.List.{List, _∷_}
+use mathlib.Core.{Bool.cond, List.{List, _∷_}}
 use lib.Dec.{ltb}
 use Rattle.io.specs.Digits.{digits}
 

@@ -1,8 +1,6 @@
 -- 01, "One run of bench, whole": what it prints. Definitions, and lines computed by them. Assumes nothing.
 use Prim.Native.Nat.{ℕ, _+_, _*_}
-use mathlib.Core.Bool.{cond}
-use mathlib.Core.List.{List, [], _∷_, _++_}
-use mathlib.Core.Path.{_≡_, refl}
+use mathlib.Core.{Bool.cond, List.{List, [], _∷_, _++_}, Path.{_≡_, refl}}
 use lib.Dec.{leb}
 use Rattle.octets.specs.Octets.{bytes}
 use Rattle.rules.specs.declared.Answer.{Answer}

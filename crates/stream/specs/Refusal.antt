@@ -1,7 +1,6 @@
 -- What a program prints of an image that is refused. Definitions, and lines computed by them. Assumes nothing.
 use Prim.Native.Nat.{ℕ, _+_, _*_}
-use mathlib.Core.List.{List, [], _∷_, _++_}
-use mathlib.Core.Path.{_≡_, refl}
+use mathlib.Core.{List.{List, [], _∷_, _++_}, Path.{_≡_, refl}}
 use lib.ListN.{length}
 use Rattle.octets.specs.Octets.{bytes}
 use Rattle.stream.specs.Decimal.{most-digits, places-within, decimal, column}

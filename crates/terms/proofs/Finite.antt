@@ -1,7 +1,6 @@
 -- A rule that holds at every number below n, by one test that antt computes. Assumes nothing.
 use Prim.Native.Nat.{ℕ, zero, suc, _<_}
-use mathlib.Core.Bool.{Bool, true, false, _&&_}
-use mathlib.Core.Path.{_≡_, refl}
+use mathlib.Core.{Bool.{Bool, true, false, _&&_}, Path.{_≡_, refl}}
 use native.Mathlib.Nat.{not-suc-le-zero, le-of-suc-le-suc}
 use lib.Dec.{T}
 use Rattle.laws.proofs.Tests.{and-l, and-r}

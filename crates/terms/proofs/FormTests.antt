@@ -1,22 +1,15 @@
 -- The form of each kind as the code tests it, and what a form that fits is worth. Assumes nothing.
 use Prim.Native.Nat.{ℕ, _+_, _≤_, _<_}
-use mathlib.Core.Bool.{Bool, true, false, cond, not, _&&_, _||_, true≢false}
-use mathlib.Core.List.{[], _∷_}
-use mathlib.Core.Path.{_≡_, refl, subst, sym, ap, ap₂, _∙_}
+use mathlib.Core.{Bool.{Bool, true, false, cond, not, _&&_, _||_, true≢false}, List.{[], _∷_}, Path.{_≡_, refl, subst, sym, ap, ap₂, _∙_}}
 use native.Mathlib.Omega.{arith}
 use borrow.Author.Tests.{le-leb, lt-leb, not-false}
-use lib.Dec.{T, eqb, eqb→eq, leb, ltb, ltb→lt, leb→le, nleb→lt}
-use lib.ListN.{length}
-use Rattle.records.specs.Phone.{Phone}
-use Rattle.records.specs.declared.Certificate.{Certificate}
-use Rattle.records.specs.declared.Event.{Event}
-use Rattle.rules.specs.Words.{between, all, all-zero}
-use Rattle.rules.specs.ImageRules.{certificate-fits}
-use Rattle.rules.specs.Forms.{new-certificate, listed, unlisted, clock-form, card-form, id-form, message-form}
-use Rattle.rules.specs.Forms.{executable-form, action-form, owned-form, replace-form}
+use lib.{Dec.{T, eqb, eqb→eq, leb, ltb, ltb→lt, leb→le, nleb→lt}, ListN.length}
+use Rattle.records.specs.{Phone.Phone, declared.Certificate.Certificate, declared.Event.Event}
+use Rattle.rules.specs.{Words.{between, all, all-zero}, ImageRules.certificate-fits}
+use Rattle.rules.specs.Forms.{new-certificate, listed, unlisted, clock-form, card-form, id-form, message-form, executable-form, action-form, owned-form}
+use Rattle.rules.specs.Forms.{replace-form}
 use Rattle.terms.specs.Seldom.{two-bytes, four-bytes, rarely, seldom}
-use Rattle.laws.proofs.Tests.{and-l, and-r, by-test, eq→eqb, same}
-use Rattle.laws.proofs.Fits.{occupied-out}
+use Rattle.laws.proofs.{Tests.{and-l, and-r, by-test, eq→eqb, same}, Fits.occupied-out}
 
 -- ---- a form with all its unused fields as one number: b stands for the bytes, s for the sum of the long fields
 

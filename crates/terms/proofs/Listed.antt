@@ -1,17 +1,11 @@
 -- The numbers that a configuration message lists, and those that it leaves 0. Assumes nothing.
 use Prim.Native.Nat.{ℕ, _+_, _≤_, _<_, zero-le}
-use mathlib.Core.Bool.{Bool, true, false, cond}
-use mathlib.Core.List.{List, _∷_}
-use mathlib.Core.Logic.{_≢_}
-use mathlib.Core.Path.{_≡_, refl, sym, ap, _∙_}
+use mathlib.Core.{Bool.{Bool, true, false, cond}, List.{List, _∷_}, Logic._≢_, Path.{_≡_, refl, sym, ap, _∙_}}
 use native.Mathlib.Omega.{arith}
 use borrow.Author.Tests.{ne-eqb}
-use lib.Dec.{eqb}
-use lib.ListN.{length, getD, drop, drop-of-length-le, List·getD-eq-default}
-use lib.Seq.{length-take-le, getD-take}
+use lib.{Dec.eqb, ListN.{length, getD, drop, drop-of-length-le, List·getD-eq-default}, Seq.{length-take-le, getD-take}}
 use Rattle.records.specs.declared.Event.{Event}
-use Rattle.rules.specs.Words.{any, all-zero}
-use Rattle.rules.specs.Forms.{eight, listed}
+use Rattle.rules.specs.{Words.{any, all-zero}, Forms.{eight, listed}}
 use Rattle.laws.proofs.Loops.{rest, any-here, any-next, any-end}
 
 past-four : (n i : ℕ) → n ≤ i → i ≢ n → i ≢ n + 1 → i ≢ n + 2 → i ≢ n + 3 → n + 4 ≤ i

@@ -1,26 +1,17 @@
 -- The clock along a timeline: a clock event that is put in is done, and behind a record the clock is its second. Assumes nothing.
 use Prim.Native.Nat.{ℕ, suc, _≤_}
-use mathlib.Core.Bool.{Bool, true, false, cond, not, _&&_}
-use mathlib.Core.List.{List, [], _∷_, _++_}
-use mathlib.Core.Logic.{_≢_}
-use mathlib.Core.Path.{_≡_, refl, sym, ap, subst, _∙_}
+use mathlib.Core.{Bool.{Bool, true, false, cond, not, _&&_}, List.{List, [], _∷_, _++_}, Logic._≢_, Path.{_≡_, refl, sym, ap, subst, _∙_}}
 use native.Mathlib.Omega.{arith}
 use borrow.Author.Tests.{lt-leb}
 use lib.Dec.{T, eqb, eqb→eq, leb, ltb, leb→le, nltb→le}
 use Rattle.octets.specs.Octets.{be8}
-use Rattle.records.specs.Layout.{event-bytes}
-use Rattle.records.specs.Phone.{Phone, decode}
+use Rattle.records.specs.{Layout.event-bytes, Phone.{Phone, decode}}
 use Rattle.records.proofs.Records.{length-event, event-read-bytes}
-use Rattle.rules.specs.Computing.{computing}
-use Rattle.rules.specs.ImageRules.{accepted}
-use Rattle.rules.specs.Codes.{code-of, code}
-use Rattle.rules.specs.Effects.{changed}
-use Rattle.rules.specs.Step.{step, run}
+use Rattle.rules.specs.{Computing.computing, ImageRules.accepted, Codes.{code-of, code}, Effects.changed, Step.{step, run}}
 use Rattle.laws.proofs.Tests.{and-l, and-r, by-test, neqb→ne}
 use Rattle.keeping.proofs.Bytes.{code-whole, step-refused, accepted-run}
 use Rattle.demands.proofs.Theorems.{event-phone, event-frame}
-use Rattle.timeline.specs.Timeline.{Timed, timed-fits, in-time, clock-event, record-events, unrolled, clock-of}
-use Rattle.timeline.specs.Running.{in-turn, met, met-by-event}
+use Rattle.timeline.specs.{Timeline.{Timed, timed-fits, in-time, clock-event, record-events, unrolled, clock-of}, Running.{in-turn, met, met-by-event}}
 
 -- ---- a clock event
 

@@ -1,19 +1,13 @@
 -- The code of a timeline, and the events that it stands for. Assumes nothing.
 use Prim.Native.Nat.{ℕ, _≤_}
-use mathlib.Core.Bool.{Bool, true, false, not, true≢false, false≢true}
-use mathlib.Core.List.{List, [], _∷_, _++_}
-use mathlib.Core.Logic.{_≢_, _↔_}
-use mathlib.Core.Path.{_≡_, refl, sym, ap, subst, _∙_}
+use mathlib.Core.{Bool.{Bool, true, false, not, true≢false, false≢true}, List.{List, [], _∷_, _++_}, Logic.{_≢_, _↔_}, Path.{_≡_, refl, sym, ap, subst, _∙_}}
 use native.Mathlib.Omega.{arith}
 use lib.Dec.{T}
-use Rattle.rules.specs.Words.{_⇒_, first}
-use Rattle.rules.specs.ImageRules.{accepted}
-use Rattle.rules.specs.Step.{run, answers}
+use Rattle.rules.specs.{Words.{_⇒_, first}, ImageRules.accepted, Step.{run, answers}}
 use Rattle.laws.proofs.Tests.{and-r}
 use Rattle.timeline.specs.Timeline.{Timed, timed, timeline-framed, in-time, timeline-fits, clock-of, timeline-code, timeline-events}
 use Rattle.timeline.specs.Running.{in-turn, met}
-use Rattle.timeline.proofs.UnrollsTold.{events-none, events-all}
-use Rattle.timeline.proofs.Clock.{Fits, in-turn-unrolled, meets}
+use Rattle.timeline.proofs.{UnrollsTold.{events-none, events-all}, Clock.{Fits, in-turn-unrolled, meets}}
 
 -- the code by whether the image is accepted and whether the timeline fits
 abbrev by-tests : Bool → Bool → ℕ

@@ -1,19 +1,12 @@
 -- Events in a buffer, one behind the other as long as there is room: one event, those of a record, and what is left of all. Assumes nothing.
 use Prim.Native.Nat.{ℕ, suc, _+_, _-_, _*_, _/_, _≤_, _<_}
-use mathlib.Core.Bool.{Bool, true, false, cond}
-use mathlib.Core.List.{List, [], _∷_, _++_, append-assoc, append-nil}
-use mathlib.Core.Path.{_≡_, refl, sym, ap, ap₂, _∙_, subst}
-use native.Mathlib.Nat.{sub-zero, add-zero}
-use native.Mathlib.Omega.{arith}
+use mathlib.Core.{Bool.{Bool, true, false, cond}, List.{List, [], _∷_, _++_, append-assoc, append-nil}, Path.{_≡_, refl, sym, ap, ap₂, _∙_, subst}}
+use native.{Mathlib.Nat.{sub-zero, add-zero}, Mathlib.Omega.arith}
 use borrow.Author.Tests.{lt-ltb, le-ltb}
-use lib.Dec.{ltb, ltb→lt, nltb→le}
-use lib.ListN.{length, take, drop, length-drop, drop-of-length-le}
-use lib.Seq.{take-nil, take-all, drop-drop, length-take-le}
+use lib.{Dec.{ltb, ltb→lt, nltb→le}, ListN.{length, take, drop, length-drop, drop-of-length-le}, Seq.{take-nil, take-all, drop-drop, length-take-le}}
 use Rattle.octets.specs.Octets.{bytes, put, zeros}
 use Rattle.octets.proofs.ByteLaws.{put-none, length-put}
-use Rattle.records.specs.Sizes.{event-size}
-use Rattle.records.specs.Layout.{event-bytes}
-use Rattle.records.specs.Phone.{joined}
+use Rattle.records.specs.{Sizes.event-size, Layout.event-bytes, Phone.joined}
 use Rattle.records.proofs.Puts.{put-next}
 use Rattle.laws.proofs.Tests.{by-test}
 use Rattle.timeline.specs.Timeline.{timed-start, timed-size, timed-count, timeline-framed, Timed, timed-at, timed, clock-event, record-events, unrolled}

@@ -1,20 +1,15 @@
 -- A timeline's form, taken apart: where its records stand, and what is left of them behind one. Assumes nothing.
 use Prim.Native.Nat.{ℕ, _+_, _*_, _≤_, _<_}
-use mathlib.Core.Bool.{Bool, true, false, not, _&&_, false≢true}
-use mathlib.Core.List.{List, [], _∷_}
-use mathlib.Core.Path.{_≡_, refl, sym, ap, ap₂, _∙_}
-use native.Mathlib.Nat.{add-zero}
-use native.Mathlib.Omega.{arith}
+use mathlib.Core.{Bool.{Bool, true, false, not, _&&_, false≢true}, List.{List, [], _∷_}, Path.{_≡_, refl, sym, ap, ap₂, _∙_}}
+use native.{Mathlib.Nat.add-zero, Mathlib.Omega.arith}
 use borrow.Author.Tests.{eqb-true, leb-true, not-true, not-false}
-use lib.Dec.{eqb, leb}
-use lib.ListN.{length, getD, drop, length-drop, drop-of-length-le}
-use lib.Seq.{getD-take, getD-drop, length-take-le}
+use lib.{Dec.{eqb, leb}, ListN.{length, getD, drop, length-drop, drop-of-length-le}, Seq.{getD-take, getD-drop, length-take-le}}
 use Rattle.octets.specs.Octets.{be, be8, be16, be32}
 use Rattle.records.specs.Sizes.{event-size}
 use Rattle.records.proofs.Joined.{length-tabulate, getD-tabulate}
 use Rattle.laws.proofs.Loops.{rest}
-use Rattle.timeline.specs.Timeline.{timeline-version, most-timed, timed-start, timed-size, timed-count, timeline-framed}
-use Rattle.timeline.specs.Timeline.{timed-at, timed, timed-fits, in-time, timeline-fits}
+use Rattle.timeline.specs.Timeline.{timeline-version, most-timed, timed-start, timed-size, timed-count, timeline-framed, timed-at, timed, timed-fits}
+use Rattle.timeline.specs.Timeline.{in-time, timeline-fits}
 
 -- ---- the header
 

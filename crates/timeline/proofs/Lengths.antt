@@ -1,24 +1,18 @@
 -- How many events a timeline stands for, that each of them is whole, and how many bytes they take. Assumes nothing.
 use Prim.Native.Nat.{ℕ, zero, suc, _*_, _≤_, _<_}
-use mathlib.Core.Bool.{true}
-use mathlib.Core.List.{List, [], _∷_, _++_}
-use mathlib.Core.Path.{_≡_, refl, sym, ap, subst, _∙_}
+use mathlib.Core.{Bool.true, List.{List, [], _∷_, _++_}, Path.{_≡_, refl, sym, ap, subst, _∙_}}
 use native.Mathlib.Omega.{arith}
-use lib.Dec.{eqb, eqb→eq}
-use lib.ListN.{length, take, length-append, length-take}
+use lib.{Dec.{eqb, eqb→eq}, ListN.{length, take, length-append, length-take}}
 use Rattle.octets.proofs.ByteLaws.{length-put}
-use Rattle.records.specs.Sizes.{event-size}
-use Rattle.records.specs.Phone.{joined, tabulate}
+use Rattle.records.specs.{Sizes.event-size, Phone.{joined, tabulate}}
 use Rattle.records.proofs.Joined.{length-tabulate}
 use Rattle.laws.proofs.Tests.{by-test, neqb→ne}
 use Rattle.timeline.specs.declared.Unrolled.{Unrolled}
-use Rattle.timeline.specs.Timeline.{timeline-framed, timed-count, Timed, timed-at, timed, record-events, unrolled}
-use Rattle.timeline.specs.Timeline.{clock-of, timeline-code, timeline-events, most-events}
+use Rattle.timeline.specs.Timeline.{timeline-framed, timed-count, Timed, timed-at, timed, record-events, unrolled, clock-of, timeline-code}
+use Rattle.timeline.specs.Timeline.{timeline-events, most-events}
 use Rattle.timeline.specs.Unrolls.{room, with-events, unroll, Unrolls}
-use Rattle.timeline.proofs.Framed.{framed-few, event-whole, fits-framed}
-use Rattle.timeline.proofs.EventsPlaced.{Whole, clock-whole, clock-few}
-use Rattle.timeline.proofs.UnrollsTold.{events-none, events-all}
-use Rattle.timeline.proofs.Codes.{zero-exact}
+use Rattle.timeline.proofs.{Framed.{framed-few, event-whole, fits-framed}, EventsPlaced.{Whole, clock-whole, clock-few}}
+use Rattle.timeline.proofs.{UnrollsTold.{events-none, events-all}, Codes.zero-exact}
 
 -- ---- whole events
 

@@ -2,14 +2,9 @@
 -- l is an image and t a timeline, both any bytes. What the statements speak of: `timeline-code`, `timeline-events`, `timed` (specs/Timeline),
 -- `in-turn`, `met`, `met-by-event` (specs/Running), `run`, `answers`, `code` (rules, specs/Step and Codes).
 use Prim.Native.Nat.{ℕ, _≤_}
-use mathlib.Core.Bool.{true, false}
-use mathlib.Core.List.{List, [], _∷_, _++_}
-use mathlib.Core.Logic.{_≢_, _↔_}
-use mathlib.Core.Path.{_≡_, ap}
+use mathlib.Core.{Bool.{true, false}, List.{List, [], _∷_, _++_}, Logic.{_≢_, _↔_}, Path.{_≡_, ap}}
 use Rattle.records.specs.Layout.{event-bytes}
-use Rattle.rules.specs.ImageRules.{accepted}
-use Rattle.rules.specs.Codes.{code}
-use Rattle.rules.specs.Step.{run, answers}
+use Rattle.rules.specs.{ImageRules.accepted, Codes.code, Step.{run, answers}}
 use Rattle.timeline.specs.Timeline.{Timed, timed, timeline-fits, clock-event, clock-of, timeline-code, timeline-events}
 use Rattle.timeline.specs.Running.{in-turn, met, met-by-event}
 use Rattle.timeline.proofs.Codes as Codes

@@ -1,23 +1,13 @@
 -- What is told of a timeline: where the image is broken, where the timeline does not fit it, and where it does. Assumes nothing.
 use Prim.Native.Nat.{ℕ}
-use mathlib.Core.Bool.{Bool, true, false, not, cond}
-use mathlib.Core.List.{List, []}
-use mathlib.Core.Logic.{_≢_}
-use mathlib.Core.Path.{_≡_, refl, sym, ap, ap₂, _∙_}
+use mathlib.Core.{Bool.{Bool, true, false, not, cond}, List.{List, []}, Logic._≢_, Path.{_≡_, refl, sym, ap, ap₂, _∙_}}
 use native.Mathlib.Omega.{arith}
 use borrow.Author.Tests.{eq-eqb, ne-eqb, not-true, not-false}
-use lib.ListN.{length}
-use lib.Seq.{take-nil}
+use lib.{ListN.length, Seq.take-nil}
 use Rattle.octets.specs.Octets.{put}
 use Rattle.octets.proofs.ByteLaws.{put-none}
-use Rattle.records.specs.Phone.{joined}
-use Rattle.records.specs.Frame.{Framed}
-use Rattle.rules.specs.declared.Answer.{Answer}
-use Rattle.rules.specs.declared.Fault.{Fault}
-use Rattle.rules.specs.Words.{first}
-use Rattle.rules.specs.ImageRules.{broken, accepted}
-use Rattle.rules.specs.Faults.{fault}
-use Rattle.rules.specs.Step.{refused, refused-at}
+use Rattle.records.specs.{Phone.joined, Frame.Framed}
+use Rattle.rules.specs.{declared.Answer.Answer, declared.Fault.Fault, Words.first, ImageRules.{broken, accepted}, Faults.fault, Step.{refused, refused-at}}
 use Rattle.rules.specs.AcceptedImage.{Accepted-image}
 use Rattle.opening.specs.Opened.{Opened}
 use Rattle.timeline.specs.declared.Unrolled.{Unrolled}

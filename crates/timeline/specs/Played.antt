@@ -1,12 +1,9 @@
 -- Timelines computed: the worked run of 01 as one, and forms that are broken. Assumes nothing.
 use Prim.Native.Nat.{ℕ}
-use mathlib.Core.List.{List, [], _∷_, _++_, map}
-use mathlib.Core.Path.{_≡_, refl}
+use mathlib.Core.{List.{List, [], _∷_, _++_, map}, Path.{_≡_, refl}}
 use lib.ListN.{getD, take}
 use Rattle.octets.specs.Octets.{bytes, put}
-use Rattle.rules.specs.Step.{answers}
-use Rattle.rules.specs.Computing.{computing}
-use Rattle.rules.specs.WorkedRun.{image, events, lines}
+use Rattle.rules.specs.{Step.answers, Computing.computing, WorkedRun.{image, events, lines}}
 use Rattle.timeline.specs.Timeline.{timeline-framed, timed-fits, in-time, unrolled, timeline-code, timeline-events}
 
 -- a record of second s with event n of the run, counted from 0 on

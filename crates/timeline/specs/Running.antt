@@ -1,7 +1,6 @@
 -- 02, item 6: a timeline run record by record, by the clock that the phone has then. Definitions only.
 use Prim.Native.Nat.{ℕ}
-use mathlib.Core.Bool.{cond}
-use mathlib.Core.List.{List, [], _∷_, _++_}
+use mathlib.Core.{Bool.cond, List.{List, [], _∷_, _++_}}
 use lib.Dec.{ltb}
 use Rattle.records.specs.Layout.{event-bytes}
 use Rattle.rules.specs.Step.{run}

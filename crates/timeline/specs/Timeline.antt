@@ -1,16 +1,10 @@
 -- 02, item 6: a lesson's timeline, its form, and the events that it stands for. Definitions only.
 use Prim.Native.Nat.{ℕ, _+_, _*_}
-use mathlib.Core.Bool.{Bool, true, cond, not, _&&_}
-use mathlib.Core.List.{List, [], _∷_, _++_}
-use lib.Dec.{eqb, leb, ltb}
-use lib.ListN.{length, take, drop}
+use mathlib.Core.{Bool.{Bool, true, cond, not, _&&_}, List.{List, [], _∷_, _++_}}
+use lib.{Dec.{eqb, leb, ltb}, ListN.{length, take, drop}}
 use Rattle.octets.specs.Octets.{be8, be16, be32}
-use Rattle.records.specs.Sizes.{event-size}
-use Rattle.records.specs.Layout.{event-bytes}
-use Rattle.records.specs.Phone.{tabulate, decode}
-use Rattle.records.specs.declared.Event.{Event}
-use Rattle.rules.specs.Words.{_⇒_, first}
-use Rattle.rules.specs.ImageRules.{accepted}
+use Rattle.records.specs.{Sizes.event-size, Layout.event-bytes, Phone.{tabulate, decode}, declared.Event.Event}
+use Rattle.rules.specs.{Words.{_⇒_, first}, ImageRules.accepted}
 
 -- "a header (u16 version = 1, u16 record count up to 1,000, u32 offset of the records, always 8) then exactly that many records of 32 bytes"
 abbrev pub timeline-version : ℕ

@@ -1,18 +1,11 @@
 -- What is told of a timeline and its events in a buffer. Definitions only.
 use Prim.Native.Nat.{ℕ, _+_, _*_, _/_}
-use mathlib.Core.Bool.{cond}
-use mathlib.Core.List.{List, [], _∷_}
-use mathlib.Core.Path.{_≡_}
-use lib.Dec.{ltb}
-use lib.ListN.{length, take}
+use mathlib.Core.{Bool.cond, List.{List, [], _∷_}, Path._≡_}
+use lib.{Dec.ltb, ListN.{length, take}}
 use Rattle.octets.specs.Octets.{put}
-use Rattle.records.specs.Sizes.{event-size}
-use Rattle.records.specs.Phone.{joined}
-use Rattle.rules.specs.ImageRules.{accepted}
-use Rattle.rules.specs.Step.{refused, refused-at}
-use Rattle.rules.specs.AcceptedImage.{Accepted-image}
-use Rattle.timeline.specs.Timeline.{timeline-code, timeline-events}
-use Rattle.timeline.specs.declared.Unrolled.{Unrolled}
+use Rattle.records.specs.{Sizes.event-size, Phone.joined}
+use Rattle.rules.specs.{ImageRules.accepted, Step.{refused, refused-at}, AcceptedImage.Accepted-image}
+use Rattle.timeline.specs.{Timeline.{timeline-code, timeline-events}, declared.Unrolled.Unrolled}
 
 -- how many whole events a buffer has room for
 abbrev pub room : List ℕ → ℕ

@@ -1,8 +1,7 @@
 -- Any two outcomes that a contract admits are equal: here for the contracts that are one equation, for the result (`returned`) or for the
 -- buffer that is written (`written`). A line for each public function, by crates in the order of the house. Assumes nothing.
 use Prim.Native.Nat.{ℕ}
-use mathlib.Core.List.{List, [], _∷_}
-use mathlib.Core.Path.{_≡_, refl, sym, ap, _∙_}
+use mathlib.Core.{List.{List, [], _∷_}, Path.{_≡_, refl, sym, ap, _∙_}}
 use Rattle.uniqueness.specs.Outcomes.{One-result, One-outcome}
 
 pub returned : {A : Type 0} {x y z : A} → x ≡ z → y ≡ z → x ≡ y

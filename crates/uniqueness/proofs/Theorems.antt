@@ -1,11 +1,8 @@
 -- Any two outcomes that a contract admits are equal: here for the contracts that are more than one equation (a record, a product or an
 -- implication), by crates in the order of the house. Equations.antt has the others. Assumes nothing.
 use Prim.Native.Nat.{ℕ}
-use mathlib.Core.Bool.{Bool, true, false}
-use mathlib.Core.List.{List, [], _∷_}
-use mathlib.Core.Path.{_≡_, refl, sym, ap, _∙_, subst}
-use Rattle.records.specs.Phone.{Phone, tabulate, decode, no-row}
-use Rattle.records.specs.declared.Event.{Event}
+use mathlib.Core.{Bool.{Bool, true, false}, List.{List, [], _∷_}, Path.{_≡_, refl, sym, ap, _∙_, subst}}
+use Rattle.records.specs.{Phone.{Phone, tabulate, decode, no-row}, declared.Event.Event}
 use Rattle.records.proofs.Joined.{length-tabulate}
 use Rattle.rules.specs.declared.Answer.{Answer}
 use Rattle.events.specs.Stepped.{Stepped}

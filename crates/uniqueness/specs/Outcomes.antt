@@ -1,8 +1,7 @@
 -- What it is for a contract to admit one outcome. A contract is taken as the check reads it off the source, in the module `Reads` of its
 -- function: `Learnt` is what a caller learns of the arguments a, the result r and the parameters e as they are at exit. Definitions only.
 use Prim.Native.Nat.{ℕ}
-use mathlib.Core.List.{List}
-use mathlib.Core.Path.{_≡_}
+use mathlib.Core.{List.List, Path._≡_}
 
 module _ {K A R E : Type 0} (contract : K → A → R → E → Type 0) where
   -- "any two results it admits are equal"

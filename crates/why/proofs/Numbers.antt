@@ -1,14 +1,10 @@
 -- A number, digit by digit. Assumes nothing.
 use Prim.Native.Nat.{ℕ, suc, _+_, _-_, _*_, _^_, _≤_, _<_}
-use mathlib.Core.List.{List}
-use mathlib.Core.Path.{_≡_, refl, sym, ap, subst}
-use native.Mathlib.Nat.{zero-lt-suc, pow-suc, pow-le-pow-right}
-use native.Mathlib.Omega.{arith}
+use mathlib.Core.{List.List, Path.{_≡_, refl, sym, ap, subst}}
+use native.{Mathlib.Nat.{zero-lt-suc, pow-suc, pow-le-pow-right}, Mathlib.Omega.arith}
 use borrow.Author.Tests.{le-leb, lt-leb}
-use lib.ListN.{length, getD, drop, drop-of-length-le}
-use lib.Seq.{drop-cons}
-use Rattle.why.specs.declared.Number.{Number}
-use Rattle.why.specs.Number.{number-from, most-places, number}
+use lib.{ListN.{length, getD, drop, drop-of-length-le}, Seq.drop-cons}
+use Rattle.why.specs.{declared.Number.Number, Number.{number-from, most-places, number}}
 
 -- ---- the word as a whole
 

@@ -1,7 +1,6 @@
 -- A page: line by line, as the bytes of a buffer say them. Assumes nothing.
 use Prim.Native.Nat.{ℕ, zero, suc, _+_, _*_}
-use mathlib.Core.List.{List, [], _∷_, _++_, append-assoc, append-nil}
-use mathlib.Core.Path.{_≡_, refl, sym, ap, ap₂, subst, _∙_}
+use mathlib.Core.{List.{List, [], _∷_, _++_, append-assoc, append-nil}, Path.{_≡_, refl, sym, ap, ap₂, subst, _∙_}}
 use native.Mathlib.Omega.{arith}
 use lib.ListN.{length, drop}
 use Rattle.octets.specs.Octets.{be, be8, be16, put}

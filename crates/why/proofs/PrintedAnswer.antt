@@ -1,26 +1,19 @@
 -- All that is printed, by the code of the answer, and how long it is. Assumes nothing.
 use Prim.Native.Nat.{ℕ, _*_, _/_, _≤_}
-use mathlib.Core.List.{List, [], _∷_}
-use mathlib.Core.Logic.{_≢_}
-use mathlib.Core.Path.{_≡_, refl, sym, ap, ap₂, _∙_}
+use mathlib.Core.{List.{List, [], _∷_}, Logic._≢_, Path.{_≡_, refl, sym, ap, ap₂, _∙_}}
 use native.Mathlib.Omega.{arith}
 use borrow.Author.Tests.{eq-eqb, ne-eqb}
-use lib.Dec.{eqb, eqb→eq}
-use lib.ListN.{length, take, length-append}
-use lib.Seq.{take-all}
+use lib.{Dec.{eqb, eqb→eq}, ListN.{length, take, length-append}, Seq.take-all}
 use Rattle.octets.specs.Octets.{put}
-use Rattle.rules.specs.declared.Answer.{Answer}
-use Rattle.rules.specs.Step.{refused, refused-at, refusal}
+use Rattle.rules.specs.{declared.Answer.Answer, Step.{refused, refused-at, refusal}}
 use Rattle.explanations.specs.Why.{Line}
 use Rattle.explanations.proofs.LowestId.{cond-cases}
-use Rattle.reasons.specs.declared.Why.{Why}
-use Rattle.reasons.specs.Lines.{line-size, most-lines, with-lines, why-code, lines-of, why}
+use Rattle.reasons.specs.{declared.Why.Why, Lines.{line-size, most-lines, with-lines, why-code, lines-of, why}}
 use Rattle.reasons.proofs.Room.{lines-few}
 use Rattle.stream.specs.Refusal.{image-refused}
 use Rattle.stream.proofs.JoinedTexts.{refusal-small}
 use Rattle.why.specs.SentenceText.{sentence, longest-sentence, page, lines-said, longest-page, executable-unknown, answer-text}
-use Rattle.why.proofs.Sentences.{sentence-small}
-use Rattle.why.proofs.Pages.{lines-back}
+use Rattle.why.proofs.{Sentences.sentence-small, Pages.lines-back}
 
 -- the same text under another name, at the start of a buffer
 pub said-first : (l : List ℕ) {text named s : List ℕ} {r : ℕ} → named ≡ text → (s ≡ put l 0 text) × (r ≡ length text) → (s ≡ put l 0 named) × (r ≡ length named)

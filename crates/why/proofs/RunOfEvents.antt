@@ -1,11 +1,9 @@
 -- Events that are stepped one after the other: none, one more, and no more than more of them. Assumes nothing.
 use Prim.Native.Nat.{ℕ, _+_, _≤_}
-use mathlib.Core.List.{List, [], _∷_, _++_}
-use mathlib.Core.Path.{_≡_, refl, sym, ap, _∙_}
+use mathlib.Core.{List.{List, [], _∷_, _++_}, Path.{_≡_, refl, sym, ap, _∙_}}
 use native.Mathlib.Omega.{arith}
 use lib.ListN.{length-append}
-use Rattle.rules.specs.declared.Answer.{Answer}
-use Rattle.rules.specs.Step.{step, run}
+use Rattle.rules.specs.{declared.Answer.Answer, Step.{step, run}}
 use Rattle.events.specs.Stepped.{Stepped-accepted}
 use Rattle.why.specs.EventsRun.{Ran-at-most}
 

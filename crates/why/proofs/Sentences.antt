@@ -1,21 +1,16 @@
 -- A sentence: word by word, by what is said, and how long it is. Assumes nothing.
 use Prim.Native.Nat.{ℕ, _+_, _≤_}
-use mathlib.Core.Bool.{Bool, true, false, cond}
-use mathlib.Core.List.{List, [], _++_}
-use mathlib.Core.Logic.{_≢_}
-use mathlib.Core.Path.{_≡_, refl}
+use mathlib.Core.{Bool.{Bool, true, false, cond}, List.{List, [], _++_}, Logic._≢_, Path.{_≡_, refl}}
 use native.Mathlib.Omega.{arith}
 use borrow.Author.Tests.{ne-eqb}
-use lib.Dec.{eqb}
-use lib.ListN.{length, length-append}
-use Rattle.explanations.specs.Why.{Line, line, said-link, said-unsigned, said-unheld, said-untrusted}
-use Rattle.explanations.specs.Why.{said-recovery, said-absent, said-invalid, said-disabled, said-past, said-unserved}
+use lib.{Dec.eqb, ListN.{length, length-append}}
+use Rattle.explanations.specs.Why.{Line, line, said-link, said-unsigned, said-unheld, said-untrusted, said-recovery, said-absent, said-invalid, said-disabled}
+use Rattle.explanations.specs.Why.{said-past, said-unserved}
 use Rattle.stream.specs.Decimal.{most-digits, decimal}
-use Rattle.stream.proofs.Texts.{decimal-small}
-use Rattle.stream.proofs.JoinedTexts.{Put, then}
-use Rattle.why.specs.SentenceText.{certificate, application, key-of-none, ended, is-a-root, is-verified-by, is-untrusted, is-unsigned}
-use Rattle.why.specs.SentenceText.{is-recovery, is-absent, is-invalid, is-disabled, is-past, is-unserved}
-use Rattle.why.specs.SentenceText.{about, link-sentence, reason-sentence, sentence, longest-sentence}
+use Rattle.stream.proofs.{Texts.decimal-small, JoinedTexts.{Put, then}}
+use Rattle.why.specs.SentenceText.{certificate, application, key-of-none, ended, is-a-root, is-verified-by, is-untrusted, is-unsigned, is-recovery}
+use Rattle.why.specs.SentenceText.{is-absent, is-invalid, is-disabled, is-past, is-unserved, about, link-sentence, reason-sentence, sentence}
+use Rattle.why.specs.SentenceText.{longest-sentence}
 
 -- ---- a number between its words
 

@@ -1,7 +1,6 @@
 -- Events that come from a descriptor and are stepped one after the other. What they are is the system's; how many is not. Definitions only.
 use Prim.Native.Nat.{ℕ, _≤_}
-use mathlib.Core.List.{List}
-use mathlib.Core.Path.{_≡_}
+use mathlib.Core.{List.List, Path._≡_}
 use lib.ListN.{length}
 use Rattle.rules.specs.Step.{run}
 

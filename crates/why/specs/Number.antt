@@ -1,10 +1,7 @@
 -- A word of the command line as a number. Definitions, and words computed by them. Assumes nothing.
 use Prim.Native.Nat.{ℕ, _+_, _-_, _*_}
-use mathlib.Core.Bool.{cond, _&&_}
-use mathlib.Core.List.{List, [], _∷_}
-use mathlib.Core.Path.{_≡_, refl}
-use lib.Dec.{leb}
-use lib.ListN.{length}
+use mathlib.Core.{Bool.{cond, _&&_}, List.{List, [], _∷_}, Path.{_≡_, refl}}
+use lib.{Dec.leb, ListN.length}
 use Rattle.octets.specs.Octets.{bytes}
 use Rattle.why.specs.declared.Number.{Number}
 

@@ -1,16 +1,13 @@
 -- What `why` prints, computed: of images of 01, and a sentence of each kind. Assumes nothing.
-use mathlib.Core.List.{[], _∷_, _++_}
-use mathlib.Core.Path.{_≡_, refl}
+use mathlib.Core.{List.{[], _∷_, _++_}, Path.{_≡_, refl}}
 use lib.ListN.{take}
 use Rattle.octets.specs.Octets.{bytes, put}
-use Rattle.rules.specs.Step.{run}
-use Rattle.rules.specs.WorkedRun.{image, events, chains-image}
-use Rattle.explanations.specs.Why.{line, said-link, said-unsigned, said-unheld, said-untrusted}
-use Rattle.explanations.specs.Why.{said-recovery, said-absent, said-invalid, said-disabled, said-past, said-unserved}
+use Rattle.rules.specs.{Step.run, WorkedRun.{image, events, chains-image}}
+use Rattle.explanations.specs.Why.{line, said-link, said-unsigned, said-unheld, said-untrusted, said-recovery, said-absent, said-invalid, said-disabled}
+use Rattle.explanations.specs.Why.{said-past, said-unserved}
 use Rattle.explanations.specs.WorkedExplanations.{telling}
 use Rattle.reasons.specs.Lines.{why-code, lines-of}
-use Rattle.stream.specs.Decimal.{places-within, decimal}
-use Rattle.stream.specs.Refusal.{image-refused}
+use Rattle.stream.specs.{Decimal.{places-within, decimal}, Refusal.image-refused}
 use Rattle.why.specs.SentenceText.{link-sentence, reason-sentence, sentence, page, answer-text}
 
 -- every definition that a page goes by, under one name

@@ -1,15 +1,12 @@
 -- 02, item 2: the sentences that `why` prints, as bytes. Definitions only.
 use Prim.Native.Nat.{ℕ, zero, suc, _+_, _*_}
-use mathlib.Core.Bool.{cond}
-use mathlib.Core.List.{List, [], _∷_, _++_}
-use lib.Dec.{eqb}
-use lib.ListN.{length}
+use mathlib.Core.{Bool.cond, List.{List, [], _∷_, _++_}}
+use lib.{Dec.eqb, ListN.length}
 use Rattle.octets.specs.Octets.{be8, be16, bytes}
-use Rattle.explanations.specs.Why.{Line, line, said-link, said-unsigned, said-unheld, said-untrusted}
-use Rattle.explanations.specs.Why.{said-recovery, said-absent, said-invalid, said-disabled, said-past, said-unserved}
+use Rattle.explanations.specs.Why.{Line, line, said-link, said-unsigned, said-unheld, said-untrusted, said-recovery, said-absent, said-invalid, said-disabled}
+use Rattle.explanations.specs.Why.{said-past, said-unserved}
 use Rattle.reasons.specs.Lines.{line-size, most-lines, why-code, lines-of, why}
-use Rattle.stream.specs.Decimal.{most-digits, decimal}
-use Rattle.stream.specs.Refusal.{image-refused}
+use Rattle.stream.specs.{Decimal.{most-digits, decimal}, Refusal.image-refused}
 
 -- ---- words before a number
 

@@ -2,8 +2,7 @@ use borrow.Author.Needs.{needs}
 use Rattle.stream.proofs.LinePlaces.{line-within}
 use native.Mathlib.Omega.{arith}
 use mathlib.Core.Path.{sym, _≡_}
-use lib.Seq.{length-take-le}
-use lib.ListN.{length}
+use lib.{Seq.length-take-le, ListN.length}
 use Prim.Native.Nat.{_-_, _≤_}
 use Rattle.rules.specs.AcceptedImage.{Accepted-image}
 use Rattle.bench.proofs.all_events.Statement.{statement}

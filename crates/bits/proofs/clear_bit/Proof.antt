@@ -1,6 +1,5 @@
 use borrow.Author.Needs.{needs}
-use Rattle.bits.proofs.BitLaws.{and-put}
-use Rattle.bits.proofs.clear_bit.Statement.{statement}
+use Rattle.bits.proofs.{BitLaws.and-put, clear_bit.Statement.statement}
 use Rattle.bits.proofs.clear_bit.Tie as tie
 
 -- src/lib.rt:27:11

@@ -1,8 +1,7 @@
 use borrow.Author.Needs.{needs}
 use Prim.Native.Nat.{ℕ, _/_, _^_}
 use mathlib.Core.Path.{ap}
-use lib.Dec.{eqb}
-use lib.Bits.{and-mask}
+use lib.{Dec.eqb, Bits.and-mask}
 use Rattle.bits.specs.Bits.{digit}
 use Rattle.bits.proofs.has_bit.Statement.{statement}
 use Rattle.bits.proofs.has_bit.Tie as tie

@@ -1,6 +1,5 @@
 use borrow.Author.Needs.{needs}
-use Rattle.bits.proofs.BitLaws.{or-put}
-use Rattle.bits.proofs.set_bit.Statement.{statement}
+use Rattle.bits.proofs.{BitLaws.or-put, set_bit.Statement.statement}
 use Rattle.bits.proofs.set_bit.Tie as tie
 
 -- src/lib.rt:19:9

@@ -1,9 +1,8 @@
 use Rattle.rules.specs.Step.{done}
 use Rattle.handling.proofs.Handles.{plan-handled, handled-still, accepted-phone}
-use Rattle.certificates.proofs.CertificateRooms.{is-installed, is-free}
-use Rattle.certificates.proofs.MarksAndMessages.{installed, certificate-still}
-use borrow.Author.Needs.{needs}
+use Rattle.certificates.proofs.{CertificateRooms.{is-installed, is-free}, MarksAndMessages.{installed, certificate-still}}
 use Rattle.certificates.proofs.install_certificate.Statement.{statement}
+use borrow.Author.Needs.{needs}
 use Rattle.certificates.proofs.install_certificate.Tie as tie
 
 abbrev start : tie.After-slot → tie.Start

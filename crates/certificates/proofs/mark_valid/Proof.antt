@@ -1,14 +1,10 @@
 use mathlib.Core.Path.{refl, sym, ap, _∙_}
 use Rattle.records.specs.Phone.{decode}
-use Rattle.rules.specs.Forms.{with-kind}
-use Rattle.rules.specs.Effects.{effect, mark-valid, on-a-card}
-use Rattle.rules.specs.Step.{done}
+use Rattle.rules.specs.{Forms.with-kind, Effects.{effect, mark-valid, on-a-card}, Step.done}
 use Rattle.keeping.proofs.Unrefused.{owned-formed}
 use Rattle.handling.proofs.Handles.{plan-handled, settle-framed, settle-known, said-still, handled-settled, accepted-phone}
-use Rattle.certificates.proofs.NamedCertificate.{About, about, about-named}
-use Rattle.certificates.proofs.MarksAndMessages.{mark-still}
+use Rattle.certificates.proofs.{NamedCertificate.{About, about, about-named}, MarksAndMessages.mark-still, mark_valid.Statement.statement}
 use borrow.Author.Needs.{needs}
-use Rattle.certificates.proofs.mark_valid.Statement.{statement}
 use Rattle.certificates.proofs.mark_valid.Tie as tie
 
 abbrev start : tie.After-slot → tie.Start

@@ -1,11 +1,8 @@
 use mathlib.Core.Path.{refl, sym, _∙_}
-use Rattle.rules.specs.Forms.{with-kind}
-use Rattle.rules.specs.Effects.{effect, message, enabled-by}
-use Rattle.rules.specs.Step.{done}
+use Rattle.rules.specs.{Forms.with-kind, Effects.{effect, message, enabled-by}, Step.done}
 use Rattle.handling.proofs.Handles.{handled-refused, settle-framed, settle-known, said-still, handled-settled, accepted-phone}
-use Rattle.certificates.proofs.MarksAndMessages.{message-still}
+use Rattle.certificates.proofs.{MarksAndMessages.message-still, message.Statement.statement}
 use borrow.Author.Needs.{needs}
-use Rattle.certificates.proofs.message.Statement.{statement}
 use Rattle.certificates.proofs.message.Tie as tie
 
 abbrev start : tie.After-message → tie.Start

@@ -1,13 +1,9 @@
 use Rattle.records.specs.Phone.{decode}
-use Rattle.rules.specs.Forms.{with-kind}
-use Rattle.rules.specs.Effects.{effect, replace}
-use Rattle.rules.specs.Step.{done}
+use Rattle.rules.specs.{Forms.with-kind, Effects.{effect, replace}, Step.done}
 use Rattle.keeping.proofs.Unrefused.{replace-formed}
 use Rattle.handling.proofs.Handles.{plan-handled, settle-framed, said-own, handled-settled, accepted-phone}
-use Rattle.certificates.proofs.NamedCertificate.{About, about, about-named}
-use Rattle.certificates.proofs.MarksAndMessages.{replace-own}
+use Rattle.certificates.proofs.{NamedCertificate.{About, about, about-named}, MarksAndMessages.replace-own, replace.Statement.statement}
 use borrow.Author.Needs.{needs}
-use Rattle.certificates.proofs.replace.Statement.{statement}
 use Rattle.certificates.proofs.replace.Tie as tie
 
 abbrev start : tie.After-slot → tie.Start

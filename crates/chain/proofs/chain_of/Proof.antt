@@ -1,6 +1,5 @@
 use borrow.Author.Needs.{needs}
-use Rattle.chain.proofs.FirstHolder.{chain-held, chain-unheld}
-use Rattle.chain.proofs.chain_of.Statement.{statement}
+use Rattle.chain.proofs.{FirstHolder.{chain-held, chain-unheld}, chain_of.Statement.statement}
 use Rattle.chain.proofs.chain_of.Tie as tie
 
 returns : tie.Need-returns

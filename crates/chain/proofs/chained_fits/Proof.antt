@@ -1,6 +1,5 @@
 use borrow.Author.Needs.{needs}
-use Rattle.chain.proofs.ByDomain.{fits-untrusted, fits-own}
-use Rattle.chain.proofs.chained_fits.Statement.{statement}
+use Rattle.chain.proofs.{ByDomain.{fits-untrusted, fits-own}, chained_fits.Statement.statement}
 use Rattle.chain.proofs.chained_fits.Tie as tie
 
 is-chained-requires : tie.Need-is-chained-requires

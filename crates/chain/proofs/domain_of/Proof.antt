@@ -5,8 +5,7 @@ use mathlib.Core.Path.{_≡_, refl}
 use lib.ListN.{length}
 use Rattle.records.specs.Phone.{decode}
 use Rattle.chain.specs.SlotWords.{holder}
-use Rattle.chain.proofs.FirstHolder.{holder-from, holder-start, holder-here, holder-next, holder-none}
-use Rattle.chain.proofs.domain_of.Statement.{statement}
+use Rattle.chain.proofs.{FirstHolder.{holder-from, holder-start, holder-here, holder-next, holder-none}, domain_of.Statement.statement}
 use Rattle.chain.proofs.domain_of.Tie as tie
 
 abbrev Inv-loop : tie.InvT-loop

@@ -2,15 +2,11 @@ use borrow.Author.Needs.{needs}
 use native.Mathlib.Omega.{arith}
 use Prim.Native.Nat.{_≤_, _-_}
 use lib.ListN.{length, take}
-use mathlib.Core.Bool.{true}
-use mathlib.Core.Path.{_≡_}
+use mathlib.Core.{Bool.true, Path._≡_}
 use Rattle.records.specs.Phone.{decode, no-executable}
-use Rattle.rules.specs.Words.{all}
-use Rattle.rules.specs.ImageRules.{chained-fits, i8}
-use Rattle.laws.proofs.Lowest.{breaks-here, keeps-on, breaks-nowhere}
-use Rattle.laws.proofs.More.{all-grows}
-use Rattle.chain.proofs.ByDomain.{domain-known}
-use Rattle.chain.proofs.first_unchained.Statement.{statement}
+use Rattle.rules.specs.{Words.all, ImageRules.{chained-fits, i8}}
+use Rattle.laws.proofs.{Lowest.{breaks-here, keeps-on, breaks-nowhere}, More.all-grows}
+use Rattle.chain.proofs.{ByDomain.domain-known, first_unchained.Statement.statement}
 use Rattle.chain.proofs.first_unchained.Tie as tie
 
 abbrev Inv-loop : tie.InvT-loop

@@ -1,7 +1,5 @@
-use borrow.Author.Tests.{not-true, not-false}
-use Rattle.chain.proofs.Slot.{never-good, good-root, good-unlinked, good-by}
-use borrow.Author.Needs.{needs}
-use Rattle.chain.proofs.is_good.Statement.{statement}
+use borrow.{Author.Tests.{not-true, not-false}, Author.Needs.needs}
+use Rattle.chain.proofs.{Slot.{never-good, good-root, good-unlinked, good-by}, is_good.Statement.statement}
 use Rattle.chain.proofs.is_good.Tie as tie
 
 returns : tie.Need-returns

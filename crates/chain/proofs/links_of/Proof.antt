@@ -1,6 +1,5 @@
-use Rattle.chain.proofs.Levels.{links-by, links-unsigned, both-signed}
+use Rattle.chain.proofs.{Levels.{links-by, links-unsigned, both-signed}, links_of.Statement.statement}
 use borrow.Author.Needs.{needs}
-use Rattle.chain.proofs.links_of.Statement.{statement}
 use Rattle.chain.proofs.links_of.Tie as tie
 
 returns : tie.Need-returns

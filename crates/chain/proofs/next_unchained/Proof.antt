@@ -1,10 +1,7 @@
 use Prim.Native.Nat.{ℕ, _-_, _≤_, _<_}
-use mathlib.Core.Bool.{true}
-use mathlib.Core.Path.{_≡_, sym, ap, _∙_}
+use mathlib.Core.{Bool.true, Path.{_≡_, sym, ap, _∙_}}
 use native.Mathlib.Omega.{arith}
-use borrow.Author.Count.{below-more}
-use borrow.Author.Needs.{needs}
-use borrow.Author.Tests.{not-true, not-false}
+use borrow.{Author.Count.below-more, Author.Needs.needs, Author.Tests.{not-true, not-false}}
 use lib.ListN.{length}
 use Rattle.records.specs.Phone.{Phone, decode, executable-at}
 use Rattle.chain.specs.SlotWords.{chained-in}

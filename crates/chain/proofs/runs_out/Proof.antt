@@ -1,11 +1,8 @@
-use Rattle.records.specs.Phone.{decode, no-certificate}
-use Rattle.records.specs.declared.Certificate.{Certificate}
+use Rattle.records.specs.{Phone.{decode, no-certificate}, declared.Certificate.Certificate}
 use Rattle.rules.specs.Words.{any}
 use Rattle.laws.proofs.Loops.{any-stops, any-goes-on, any-fails}
 use Rattle.chain.specs.Breaks.{runs-out}
-use mathlib.Core.Bool.{Bool, false}
-use mathlib.Core.List.{List}
-use mathlib.Core.Path.{_≡_, refl}
+use mathlib.Core.{Bool.{Bool, false}, List.List, Path.{_≡_, refl}}
 use borrow.Author.Needs.{needs}
 use native.Mathlib.Omega.{arith}
 use lib.ListN.{length, drop}

@@ -1,6 +1,5 @@
 use borrow.Author.Needs.{needs}
-use Rattle.chain.proofs.SettledInTurn.{turn-framed, turns-written}
-use Rattle.chain.proofs.settle.Statement.{statement}
+use Rattle.chain.proofs.{SettledInTurn.{turn-framed, turns-written}, settle.Statement.statement}
 use Rattle.chain.proofs.settle.Tie as tie
 
 settle-domain-requires-2 : tie.Need-settle-domain-requires-2

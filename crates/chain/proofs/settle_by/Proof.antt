@@ -2,12 +2,9 @@ use Prim.Native.Nat.{_-_, _≤_}
 use native.Mathlib.Omega.{arith}
 use borrow.Author.Needs.{needs}
 use mathlib.Core.Path.{sym, ap, _∙_}
-use Rattle.chain.specs.SlotWords.{good-slots}
-use Rattle.chain.specs.Settling.{settle-in}
-use Rattle.laws.proofs.Tables.{executables}
-use Rattle.laws.proofs.SlotSweeps.{sweep-starts, sweep-ends}
-use Rattle.chain.proofs.SettledInTurn.{Settling, same-trust, settling-next, settling-writes}
-use Rattle.chain.proofs.settle_by.Statement.{statement}
+use Rattle.chain.specs.{SlotWords.good-slots, Settling.settle-in}
+use Rattle.laws.proofs.{Tables.executables, SlotSweeps.{sweep-starts, sweep-ends}}
+use Rattle.chain.proofs.{SettledInTurn.{Settling, same-trust, settling-next, settling-writes}, settle_by.Statement.statement}
 use Rattle.chain.proofs.settle_by.Tie as tie
 
 abbrev Inv-loop : tie.InvT-loop

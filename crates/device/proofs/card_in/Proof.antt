@@ -1,12 +1,9 @@
-use mathlib.Core.Bool.{true}
-use mathlib.Core.Path.{_≡_, sym, _∙_}
+use mathlib.Core.{Bool.true, Path.{_≡_, sym, _∙_}}
 use borrow.Author.Needs.{needs}
 use Rattle.records.specs.Phone.{decode}
-use Rattle.rules.specs.Forms.{with-kind}
-use Rattle.rules.specs.Codes.{code-of}
+use Rattle.rules.specs.{Forms.with-kind, Codes.code-of}
 use Rattle.handling.proofs.Handles.{handled-refused}
-use Rattle.device.proofs.DeviceDone.{Effected, put-in, put-in-only, settle-asks, settle-ends}
-use Rattle.device.proofs.card_in.Statement.{statement}
+use Rattle.device.proofs.{DeviceDone.{Effected, put-in, put-in-only, settle-asks, settle-ends}, card_in.Statement.statement}
 use Rattle.device.proofs.card_in.Tie as tie
 
 abbrev start : tie.After-has-marked-operator → tie.Start

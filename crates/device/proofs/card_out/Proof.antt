@@ -1,9 +1,7 @@
-use mathlib.Core.Bool.{true}
-use mathlib.Core.Path.{sym, _∙_}
+use mathlib.Core.{Bool.true, Path.{sym, _∙_}}
 use borrow.Author.Needs.{needs}
 use Rattle.handling.proofs.Handles.{handled-refused}
-use Rattle.device.proofs.DeviceDone.{Effected, taken-out, settle-asks, settle-ends}
-use Rattle.device.proofs.card_out.Statement.{statement}
+use Rattle.device.proofs.{DeviceDone.{Effected, taken-out, settle-asks, settle-ends}, card_out.Statement.statement}
 use Rattle.device.proofs.card_out.Tie as tie
 
 abbrev start : tie.After-card-out → tie.Start

@@ -1,8 +1,7 @@
 use mathlib.Core.Path.{sym, _∙_}
 use borrow.Author.Needs.{needs}
 use Rattle.handling.proofs.Handles.{handled-refused}
-use Rattle.device.proofs.DeviceDone.{Effected, ticked, settle-asks, settle-ends}
-use Rattle.device.proofs.clock.Statement.{statement}
+use Rattle.device.proofs.{DeviceDone.{Effected, ticked, settle-asks, settle-ends}, clock.Statement.statement}
 use Rattle.device.proofs.clock.Tie as tie
 
 abbrev start : tie.After-clock → tie.Start

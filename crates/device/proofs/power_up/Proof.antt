@@ -1,9 +1,7 @@
-use mathlib.Core.Bool.{true}
-use mathlib.Core.Path.{sym, _∙_}
+use mathlib.Core.{Bool.true, Path.{sym, _∙_}}
 use borrow.Author.Needs.{needs}
 use Rattle.handling.proofs.Handles.{handled-refused}
-use Rattle.device.proofs.DeviceDone.{Effected, powered-up, settle-asks, settle-ends}
-use Rattle.device.proofs.power_up.Statement.{statement}
+use Rattle.device.proofs.{DeviceDone.{Effected, powered-up, settle-asks, settle-ends}, power_up.Statement.statement}
 use Rattle.device.proofs.power_up.Tie as tie
 
 abbrev start : tie.After-power-up → tie.Start

@@ -2,8 +2,7 @@ use native.Mathlib.Omega.{arith}
 use mathlib.Core.Path.{sym}
 use lib.Seq.{length-take-le}
 use borrow.Author.Needs.{needs}
-use Rattle.differences.proofs.SameBytes.{same-text}
-use Rattle.differences.proofs.answers_differ.Statement.{statement}
+use Rattle.differences.proofs.{SameBytes.same-text, answers_differ.Statement.statement}
 use Rattle.differences.proofs.answers_differ.Tie as tie
 
 slice-aggregate-text-differs : tie.Need-slice-aggregate-text-differs

@@ -1,8 +1,7 @@
 use borrow.Author.Needs.{needs}
 use lib.ListN.{length}
 use Prim.Native.Nat.{_-_}
-use Rattle.differences.proofs.SameBytes.{Same-to, none-yet, one-more, ends, other-ends, byte-differs}
-use Rattle.differences.proofs.first_difference.Statement.{statement}
+use Rattle.differences.proofs.{SameBytes.{Same-to, none-yet, one-more, ends, other-ends, byte-differs}, first_difference.Statement.statement}
 use Rattle.differences.proofs.first_difference.Tie as tie
 
 abbrev Inv-loop : tie.InvT-loop

@@ -1,6 +1,5 @@
 use borrow.Author.Needs.{needs}
-use Rattle.differences.proofs.SameBytes.{same-to-the-end, other-length, other-byte}
-use Rattle.differences.proofs.image_differs.Statement.{statement}
+use Rattle.differences.proofs.{SameBytes.{same-to-the-end, other-length, other-byte}, image_differs.Statement.statement}
 use Rattle.differences.proofs.image_differs.Tie as tie
 
 -- the place behind the search for a byte that differs

@@ -1,7 +1,6 @@
 use borrow.Author.Needs.{needs}
 use Rattle.stream.proofs.JoinedTexts.{said, nothing}
-use Rattle.differences.proofs.AnswerLines.{opened-nothing, opened-told}
-use Rattle.differences.proofs.put_opened.Statement.{statement}
+use Rattle.differences.proofs.{AnswerLines.{opened-nothing, opened-told}, put_opened.Statement.statement}
 use Rattle.differences.proofs.put_opened.Tie as tie
 
 returns : tie.Need-returns

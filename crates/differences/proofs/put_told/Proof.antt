@@ -1,8 +1,7 @@
 use native.Mathlib.Omega.{arith}
 use borrow.Author.Needs.{needs}
 use Rattle.stream.proofs.JoinedTexts.{said, nothing, refusal-ends}
-use Rattle.differences.proofs.AnswerLines.{told-answer, told-before, told-number, told-refusal, put-behind}
-use Rattle.differences.proofs.put_told.Statement.{statement}
+use Rattle.differences.proofs.{AnswerLines.{told-answer, told-before, told-number, told-refusal, put-behind}, put_told.Statement.statement}
 use Rattle.differences.proofs.put_told.Tie as tie
 
 returns : tie.Need-returns

@@ -1,6 +1,5 @@
 use borrow.Author.Needs.{needs}
-use Rattle.differences.proofs.SameBytes.{same-to-the-end, other-byte, other-byte-behind}
-use Rattle.differences.proofs.text_differs.Statement.{statement}
+use Rattle.differences.proofs.{SameBytes.{same-to-the-end, other-byte, other-byte-behind}, text_differs.Statement.statement}
 use Rattle.differences.proofs.text_differs.Tie as tie
 
 returns : tie.Need-returns

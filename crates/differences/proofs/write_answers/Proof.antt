@@ -6,8 +6,7 @@ use lib.ListN.{length, getD, take, drop}
 use Rattle.stream.specs.PrintedLines.{heading}
 use Rattle.stream.proofs.JoinedTexts.{said}
 use Rattle.differences.specs.WrittenAnswers.{told-line, text-room, lines-behind, written}
-use Rattle.differences.proofs.AnswerLines.{told-small, opened-small, begun, one-more, no-room, all-told}
-use Rattle.differences.proofs.write_answers.Statement.{statement}
+use Rattle.differences.proofs.{AnswerLines.{told-small, opened-small, begun, one-more, no-room, all-told}, write_answers.Statement.statement}
 use Rattle.differences.proofs.write_answers.Tie as tie
 
 -- with what the answers from the i-th on come to behind the text so far, it is all of it

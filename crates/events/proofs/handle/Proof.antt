@@ -1,8 +1,7 @@
 use mathlib.Core.Logic.{⊎-elim}
 use native.Mathlib.Omega.{arith}
-use Rattle.events.proofs.Steps.{low-actor, read-of-kind, no-such-kind, kind-zero, no-such-actor}
+use Rattle.events.proofs.{Steps.{low-actor, read-of-kind, no-such-kind, kind-zero, no-such-actor}, handle.Statement.statement}
 use borrow.Author.Needs.{needs}
-use Rattle.events.proofs.handle.Statement.{statement}
 use Rattle.events.proofs.handle.Tie as tie
 
 returns : tie.Need-returns

@@ -1,6 +1,5 @@
-use Rattle.events.proofs.Steps.{broken-stepped}
+use Rattle.events.proofs.{Steps.broken-stepped, step.Statement.statement}
 use borrow.Author.Needs.{needs}
-use Rattle.events.proofs.step.Statement.{statement}
 use Rattle.events.proofs.step.Tie as tie
 
 returns : tie.Need-returns

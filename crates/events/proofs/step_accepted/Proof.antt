@@ -1,6 +1,5 @@
-use Rattle.events.proofs.Steps.{short-stepped, handled-stepped}
+use Rattle.events.proofs.{Steps.{short-stepped, handled-stepped}, step_accepted.Statement.statement}
 use borrow.Author.Needs.{needs}
-use Rattle.events.proofs.step_accepted.Statement.{statement}
 use Rattle.events.proofs.step_accepted.Tie as tie
 
 returns : tie.Need-returns

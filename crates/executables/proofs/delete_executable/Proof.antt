@@ -1,8 +1,6 @@
 use borrow.Author.Needs.{needs}
 use Rattle.handling.proofs.Handles.{plan-handled}
-use Rattle.executables.proofs.ActsOnExecutable.{Acts, acts-named}
-use Rattle.executables.proofs.ExecutablesDone.{delete-asks, delete-done}
-use Rattle.executables.proofs.delete_executable.Statement.{statement}
+use Rattle.executables.proofs.{ActsOnExecutable.{Acts, acts-named}, ExecutablesDone.{delete-asks, delete-done}, delete_executable.Statement.statement}
 use Rattle.executables.proofs.delete_executable.Tie as tie
 
 abbrev start : tie.After-delete-executable → tie.Start

@@ -1,9 +1,7 @@
 use mathlib.Core.Bool.{true}
 use borrow.Author.Needs.{needs}
 use Rattle.handling.proofs.Handles.{plan-handled}
-use Rattle.executables.proofs.ActsOnExecutable.{Acts, acts-named}
-use Rattle.executables.proofs.ExecutablesDone.{permit-asks, permit-done}
-use Rattle.executables.proofs.give.Statement.{statement}
+use Rattle.executables.proofs.{ActsOnExecutable.{Acts, acts-named}, ExecutablesDone.{permit-asks, permit-done}, give.Statement.statement}
 use Rattle.executables.proofs.give.Tie as tie
 
 abbrev start : tie.After-give → tie.Start

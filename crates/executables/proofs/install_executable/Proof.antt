@@ -1,8 +1,6 @@
 use borrow.Author.Needs.{needs}
 use Rattle.handling.proofs.Handles.{plan-handled}
-use Rattle.executables.proofs.ActsOnExecutable.{Acts, acts-free}
-use Rattle.executables.proofs.ExecutablesDone.{install-done}
-use Rattle.executables.proofs.install_executable.Statement.{statement}
+use Rattle.executables.proofs.{ActsOnExecutable.{Acts, acts-free}, ExecutablesDone.install-done, install_executable.Statement.statement}
 use Rattle.executables.proofs.install_executable.Tie as tie
 
 abbrev start : tie.After-install-executable → tie.Start

@@ -1,8 +1,6 @@
 use borrow.Author.Needs.{needs}
 use Rattle.handling.proofs.Handles.{plan-handled}
-use Rattle.executables.proofs.ActsOnExecutable.{Acts, acts-named}
-use Rattle.executables.proofs.ExecutablesDone.{request-done}
-use Rattle.executables.proofs.request.Statement.{statement}
+use Rattle.executables.proofs.{ActsOnExecutable.{Acts, acts-named}, ExecutablesDone.request-done, request.Statement.statement}
 use Rattle.executables.proofs.request.Tie as tie
 
 abbrev start : tie.After-request → tie.Start

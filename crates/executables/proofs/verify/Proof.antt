@@ -1,8 +1,6 @@
 use borrow.Author.Needs.{needs}
 use Rattle.handling.proofs.Handles.{plan-handled}
-use Rattle.executables.proofs.ActsOnExecutable.{Acts, acts-named}
-use Rattle.executables.proofs.ExecutablesDone.{verify-asks, verify-done}
-use Rattle.executables.proofs.verify.Statement.{statement}
+use Rattle.executables.proofs.{ActsOnExecutable.{Acts, acts-named}, ExecutablesDone.{verify-asks, verify-done}, verify.Statement.statement}
 use Rattle.executables.proofs.verify.Tie as tie
 
 abbrev start : tie.After-verify → tie.Start

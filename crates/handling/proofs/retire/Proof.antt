@@ -1,12 +1,9 @@
 use Prim.Native.Nat.{_-_}
 use native.Mathlib.Omega.{arith}
-use borrow.Author.Tests.{not-true, not-false}
-use borrow.Author.Needs.{needs}
+use borrow.{Author.Tests.{not-true, not-false}, Author.Needs.needs}
 use Rattle.handling.specs.Retiring.{retire}
-use Rattle.laws.proofs.Tables.{certificates}
-use Rattle.laws.proofs.SlotSweeps.{Sweeping, sweep-starts, sweep-goes-on, sweep-skips, sweep-ends}
-use Rattle.handling.proofs.Retires.{retire-written, retire-skipped}
-use Rattle.handling.proofs.retire.Statement.{statement}
+use Rattle.laws.proofs.{Tables.certificates, SlotSweeps.{Sweeping, sweep-starts, sweep-goes-on, sweep-skips, sweep-ends}}
+use Rattle.handling.proofs.{Retires.{retire-written, retire-skipped}, retire.Statement.statement}
 use Rattle.handling.proofs.retire.Tie as tie
 
 abbrev Inv-loop : tie.InvT-loop

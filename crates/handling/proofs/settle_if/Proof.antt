@@ -1,7 +1,6 @@
 use mathlib.Core.Path.{sym, ap, _∙_}
-use borrow.Author.Tests.{not-true}
+use borrow.{Author.Tests.not-true, Author.Needs.needs}
 use Rattle.records.specs.Phone.{encode}
-use borrow.Author.Needs.{needs}
 use Rattle.handling.proofs.settle_if.Statement.{statement}
 use Rattle.handling.proofs.settle_if.Tie as tie
 

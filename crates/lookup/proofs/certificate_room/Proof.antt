@@ -1,18 +1,13 @@
-use borrow.Author.Needs.{needs}
-use borrow.Author.Tests.{eq-eqb, ne-eqb}
+use borrow.{Author.Needs.needs, Author.Tests.{eq-eqb, ne-eqb}}
 use native.Mathlib.Omega.{arith}
 use Prim.Native.Nat.{ℕ, _+_, _≤_, _-_}
-use mathlib.Core.List.{List}
-use mathlib.Core.Bool.{false}
-use mathlib.Core.Path.{_≡_, sym, ap, _∙_}
+use mathlib.Core.{List.List, Bool.false, Path.{_≡_, sym, ap, _∙_}}
 use lib.ListN.{length, drop}
 use Rattle.records.specs.Phone.{decode, no-certificate}
-use Rattle.rules.specs.Words.{any, first-place}
-use Rattle.rules.specs.Codes.{has-id, in-another}
+use Rattle.rules.specs.{Words.{any, first-place}, Codes.{has-id, in-another}}
 use Rattle.laws.proofs.Loops.{any-back, any-back-done, any-end}
 use Rattle.laws.proofs.Places.{place-back-here, place-back, place-back-done, place-back-end, place-none, place-some, somewhere}
-use Rattle.lookup.proofs.SweptRoom.{certificate-taken, certificate-elsewhere, certificate-full, certificate-free}
-use Rattle.lookup.proofs.certificate_room.Statement.{statement}
+use Rattle.lookup.proofs.{SweptRoom.{certificate-taken, certificate-elsewhere, certificate-full, certificate-free}, certificate_room.Statement.statement}
 use Rattle.lookup.proofs.certificate_room.Tie as tie
 
 -- no slot from slot i on has the id, and none has the key in another domain

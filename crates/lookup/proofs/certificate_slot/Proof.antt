@@ -1,6 +1,5 @@
-use native.Mathlib.Nat.{zero-add}
+use native.{Mathlib.Nat.zero-add, Mathlib.Omega.arith}
 use borrow.Author.Needs.{needs}
-use native.Mathlib.Omega.{arith}
 use Prim.Native.Nat.{_≤_, _-_}
 use lib.ListN.{length}
 use mathlib.Core.Path.{_≡_, sym, _∙_}
@@ -8,8 +7,7 @@ use Rattle.records.specs.Phone.{decode, no-certificate}
 use Rattle.rules.specs.Codes.{has-id}
 use Rattle.lookup.specs.RoomForOne.{Passed}
 use Rattle.laws.proofs.Places.{place-next}
-use Rattle.lookup.proofs.FoundSlot.{found-here, found-nowhere}
-use Rattle.lookup.proofs.certificate_slot.Statement.{statement}
+use Rattle.lookup.proofs.{FoundSlot.{found-here, found-nowhere}, certificate_slot.Statement.statement}
 use Rattle.lookup.proofs.certificate_slot.Tie as tie
 
 abbrev Inv-loop : tie.InvT-loop

@@ -7,8 +7,7 @@ use Rattle.records.specs.Phone.{decode, no-executable}
 use Rattle.rules.specs.Codes.{is-executable}
 use Rattle.lookup.specs.RoomForOne.{Passed}
 use Rattle.laws.proofs.Places.{place-next}
-use Rattle.lookup.proofs.FoundSlot.{found-here, found-nowhere}
-use Rattle.lookup.proofs.executable_from.Statement.{statement}
+use Rattle.lookup.proofs.{FoundSlot.{found-here, found-nowhere}, executable_from.Statement.statement}
 use Rattle.lookup.proofs.executable_from.Tie as tie
 
 abbrev Inv-loop : tie.InvT-loop

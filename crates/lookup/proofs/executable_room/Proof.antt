@@ -1,18 +1,12 @@
-use borrow.Author.Needs.{needs}
-use borrow.Author.Tests.{not-true, not-false}
+use borrow.{Author.Needs.needs, Author.Tests.{not-true, not-false}}
 use native.Mathlib.Omega.{arith}
 use Prim.Native.Nat.{ℕ, _+_, _≤_, _-_}
-use mathlib.Core.List.{List}
-use mathlib.Core.Bool.{false}
-use mathlib.Core.Path.{_≡_, sym, _∙_}
+use mathlib.Core.{List.List, Bool.false, Path.{_≡_, sym, _∙_}}
 use lib.ListN.{length, drop}
 use Rattle.records.specs.Phone.{decode, no-executable}
-use Rattle.rules.specs.Words.{any, first-place}
-use Rattle.rules.specs.Codes.{is-executable}
-use Rattle.laws.proofs.Loops.{any-back, any-back-done, any-end}
-use Rattle.laws.proofs.Places.{place-back-here, place-back, place-back-done, place-back-end, somewhere}
-use Rattle.lookup.proofs.SweptRoom.{executable-taken, executable-full, executable-free}
-use Rattle.lookup.proofs.executable_room.Statement.{statement}
+use Rattle.rules.specs.{Words.{any, first-place}, Codes.is-executable}
+use Rattle.laws.proofs.{Loops.{any-back, any-back-done, any-end}, Places.{place-back-here, place-back, place-back-done, place-back-end, somewhere}}
+use Rattle.lookup.proofs.{SweptRoom.{executable-taken, executable-full, executable-free}, executable_room.Statement.statement}
 use Rattle.lookup.proofs.executable_room.Tie as tie
 
 -- no slot from slot i on has the id

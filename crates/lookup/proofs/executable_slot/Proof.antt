@@ -1,6 +1,5 @@
-use native.Mathlib.Nat.{zero-add}
+use native.{Mathlib.Nat.zero-add, Mathlib.Omega.arith}
 use borrow.Author.Needs.{needs}
-use native.Mathlib.Omega.{arith}
 use Prim.Native.Nat.{ℕ, _+_, _≤_, _-_}
 use lib.ListN.{length}
 use mathlib.Core.Path.{_≡_, sym, _∙_}
@@ -8,8 +7,7 @@ use Rattle.records.specs.Phone.{decode, no-executable}
 use Rattle.rules.specs.Codes.{is-executable}
 use Rattle.lookup.specs.RoomForOne.{Passed}
 use Rattle.laws.proofs.Places.{place-next, place-past}
-use Rattle.lookup.proofs.FoundSlot.{found-here}
-use Rattle.lookup.proofs.executable_slot.Statement.{statement}
+use Rattle.lookup.proofs.{FoundSlot.found-here, executable_slot.Statement.statement}
 use Rattle.lookup.proofs.executable_slot.Tie as tie
 
 abbrev Inv-loop : tie.InvT-loop

@@ -1,6 +1,5 @@
-use native.Mathlib.Nat.{zero-add}
+use native.{Mathlib.Nat.zero-add, Mathlib.Omega.arith}
 use borrow.Author.Needs.{needs}
-use native.Mathlib.Omega.{arith}
 use Prim.Native.Nat.{_≤_, _-_}
 use lib.ListN.{length}
 use mathlib.Core.Path.{_≡_, sym, _∙_}

@@ -1,15 +1,10 @@
 use borrow.Author.Needs.{needs}
 use native.Mathlib.Omega.{arith}
 use Prim.Native.Nat.{ℕ, _≤_, _-_}
-use mathlib.Core.List.{List}
-use lib.ListN.{length, drop}
-use mathlib.Core.Path.{_≡_, refl, sym, ap, _∙_}
-use mathlib.Core.Bool.{Bool, _&&_}
-use lib.Dec.{eqb}
-use Rattle.records.specs.Phone.{decode, no-certificate}
-use Rattle.records.specs.declared.Certificate.{Certificate}
-use Rattle.rules.specs.Words.{any}
-use Rattle.rules.specs.ImageRules.{valid-in, has-valid-operator}
+use mathlib.Core.{List.List, Path.{_≡_, refl, sym, ap, _∙_}, Bool.{Bool, _&&_}}
+use lib.{ListN.{length, drop}, Dec.eqb}
+use Rattle.records.specs.{Phone.{decode, no-certificate}, declared.Certificate.Certificate}
+use Rattle.rules.specs.{Words.any, ImageRules.{valid-in, has-valid-operator}}
 use Rattle.laws.proofs.Loops.{any-stops, any-goes-on, any-fails}
 use Rattle.lookup.proofs.has_valid_operator.Statement.{statement}
 use Rattle.lookup.proofs.has_valid_operator.Tie as tie

@@ -1,15 +1,10 @@
-use borrow.Author.Needs.{needs}
+use borrow.{Author.Needs.needs, Author.Tests.{eq-eqb, ne-eqb}}
 use native.Mathlib.Omega.{arith}
 use Prim.Native.Nat.{ℕ, _≤_, _-_}
-use mathlib.Core.Bool.{Bool}
-use lib.ListN.{length, drop}
-use mathlib.Core.Path.{_≡_, refl}
-use lib.Dec.{eqb}
-use borrow.Author.Tests.{eq-eqb, ne-eqb}
-use Rattle.records.specs.Phone.{decode, no-card}
-use Rattle.records.specs.declared.Card.{Card}
-use Rattle.rules.specs.Words.{any}
-use Rattle.rules.specs.ImageRules.{in-card-table}
+use mathlib.Core.{Bool.Bool, Path.{_≡_, refl}}
+use lib.{ListN.{length, drop}, Dec.eqb}
+use Rattle.records.specs.{Phone.{decode, no-card}, declared.Card.Card}
+use Rattle.rules.specs.{Words.any, ImageRules.in-card-table}
 use Rattle.laws.proofs.Loops.{any-stops, any-goes-on, any-fails}
 use Rattle.lookup.proofs.in_card_table.Statement.{statement}
 use Rattle.lookup.proofs.in_card_table.Tie as tie

@@ -1,14 +1,10 @@
 use borrow.Author.Needs.{needs}
 use native.Mathlib.Omega.{arith}
 use Prim.Native.Nat.{ℕ, _≤_, _-_}
-use mathlib.Core.Bool.{Bool}
-use mathlib.Core.List.{List}
-use mathlib.Core.Path.{_≡_, refl, sym, _∙_}
+use mathlib.Core.{Bool.Bool, List.List, Path.{_≡_, refl, sym, _∙_}}
 use lib.ListN.{length, drop}
-use Rattle.records.specs.Phone.{decode, no-certificate}
-use Rattle.records.specs.declared.Certificate.{Certificate}
-use Rattle.rules.specs.Words.{any}
-use Rattle.rules.specs.Codes.{in-another}
+use Rattle.records.specs.{Phone.{decode, no-certificate}, declared.Certificate.Certificate}
+use Rattle.rules.specs.{Words.any, Codes.in-another}
 use Rattle.laws.proofs.Loops.{any-stops, any-goes-on, any-fails}
 use Rattle.lookup.proofs.key_elsewhere.Statement.{statement}
 use Rattle.lookup.proofs.key_elsewhere.Tie as tie

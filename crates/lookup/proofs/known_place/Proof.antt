@@ -1,6 +1,5 @@
-use borrow.Author.Tests.{eq-eqb, ne-eqb}
+use borrow.{Author.Tests.{eq-eqb, ne-eqb}, Author.Needs.needs}
 use Rattle.rules.specs.ImageRules.{known-place}
-use borrow.Author.Needs.{needs}
 use Rattle.lookup.proofs.known_place.Statement.{statement}
 use Rattle.lookup.proofs.known_place.Tie as tie
 

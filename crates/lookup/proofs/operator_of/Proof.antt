@@ -1,15 +1,10 @@
-use borrow.Author.Needs.{needs}
+use borrow.{Author.Needs.needs, Author.Tests.{eq-eqb, ne-eqb}}
 use native.Mathlib.Omega.{arith}
 use Prim.Native.Nat.{ℕ, _≤_, _-_}
-use mathlib.Core.Bool.{Bool}
-use lib.ListN.{length, drop}
-use mathlib.Core.Path.{_≡_, refl, sym, ap, _∙_}
-use lib.Dec.{eqb}
-use borrow.Author.Tests.{eq-eqb, ne-eqb}
-use Rattle.records.specs.Phone.{decode, no-card}
-use Rattle.records.specs.declared.Card.{Card}
-use Rattle.rules.specs.Words.{find}
-use Rattle.rules.specs.ImageRules.{operator-of}
+use mathlib.Core.{Bool.Bool, Path.{_≡_, refl, sym, ap, _∙_}}
+use lib.{ListN.{length, drop}, Dec.eqb}
+use Rattle.records.specs.{Phone.{decode, no-card}, declared.Card.Card}
+use Rattle.rules.specs.{Words.find, ImageRules.operator-of}
 use Rattle.laws.proofs.Loops.{find-here, find-next, find-end}
 use Rattle.lookup.proofs.operator_of.Statement.{statement}
 use Rattle.lookup.proofs.operator_of.Tie as tie

@@ -1,7 +1,5 @@
-use borrow.Author.Tests.{not-true, not-false}
-use mathlib.Core.Bool.{Bool, true, false, _&&_}
-use mathlib.Core.Path.{_≡_, sym, ap, _∙_}
-use borrow.Author.Needs.{needs}
+use borrow.{Author.Tests.{not-true, not-false}, Author.Needs.needs}
+use mathlib.Core.{Bool.{Bool, true, false, _&&_}, Path.{_≡_, sym, ap, _∙_}}
 use Rattle.lookup.proofs.valid_operator.Statement.{statement}
 use Rattle.lookup.proofs.valid_operator.Tie as tie
 

@@ -1,6 +1,5 @@
-use Rattle.monitor.proofs.RunLaws.{count-whole, count-short}
+use Rattle.monitor.proofs.{RunLaws.{count-whole, count-short}, event_count.Statement.statement}
 use borrow.Author.Needs.{needs}
-use Rattle.monitor.proofs.event_count.Statement.{statement}
 use Rattle.monitor.proofs.event_count.Tie as tie
 
 returns : tie.Need-returns

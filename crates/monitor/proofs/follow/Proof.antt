@@ -4,8 +4,7 @@ use lib.ListN.{length}
 use native.Mathlib.Omega.{arith}
 use borrow.Author.Needs.{needs}
 use Rattle.rules.specs.AcceptedImage.{Accepted-image}
-use Rattle.monitor.proofs.RunLaws.{Left, left-all, left-less, left-none}
-use Rattle.monitor.proofs.follow.Statement.{statement}
+use Rattle.monitor.proofs.{RunLaws.{Left, left-all, left-less, left-none}, follow.Statement.statement}
 use Rattle.monitor.proofs.follow.Tie as tie
 
 abbrev Inv-loop : tie.InvT-loop

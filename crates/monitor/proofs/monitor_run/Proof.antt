@@ -1,6 +1,5 @@
-use Rattle.monitor.proofs.RunLaws.{broken-followed, opened-accepted, within-events, within-room}
+use Rattle.monitor.proofs.{RunLaws.{broken-followed, opened-accepted, within-events, within-room}, monitor_run.Statement.statement}
 use borrow.Author.Needs.{needs}
-use Rattle.monitor.proofs.monitor_run.Statement.{statement}
 use Rattle.monitor.proofs.monitor_run.Tie as tie
 
 pub monitor-run-spec : {M : Type 1} → statement M

@@ -1,6 +1,5 @@
-use Rattle.monitor.proofs.RunLaws.{packed-stepped}
+use Rattle.monitor.proofs.{RunLaws.packed-stepped, monitor_step.Statement.statement}
 use borrow.Author.Needs.{needs}
-use Rattle.monitor.proofs.monitor_step.Statement.{statement}
 use Rattle.monitor.proofs.monitor_step.Tie as tie
 
 pub monitor-step-spec : {M : Type 1} → statement M

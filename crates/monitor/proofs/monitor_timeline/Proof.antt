@@ -1,7 +1,6 @@
 use Rattle.timeline.proofs.Lengths.{count-few}
-use Rattle.monitor.proofs.TimelineTold.{unrolled-for}
+use Rattle.monitor.proofs.{TimelineTold.unrolled-for, monitor_timeline.Statement.statement}
 use borrow.Author.Needs.{needs}
-use Rattle.monitor.proofs.monitor_timeline.Statement.{statement}
 use Rattle.monitor.proofs.monitor_timeline.Tie as tie
 
 pub monitor-timeline-spec : {M : Type 1} → statement M

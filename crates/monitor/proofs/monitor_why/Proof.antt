@@ -1,6 +1,5 @@
-use Rattle.monitor.proofs.AnswerLines.{few-told, asked}
+use Rattle.monitor.proofs.{AnswerLines.{few-told, asked}, monitor_why.Statement.statement}
 use borrow.Author.Needs.{needs}
-use Rattle.monitor.proofs.monitor_why.Statement.{statement}
 use Rattle.monitor.proofs.monitor_why.Tie as tie
 
 pub monitor-why-spec : {M : Type 1} → statement M

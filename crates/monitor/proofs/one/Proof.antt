@@ -1,8 +1,7 @@
 use Prim.Native.Nat.{_*_}
 use native.Mathlib.Omega.{arith}
-use Rattle.monitor.proofs.RunLaws.{last-event, whole-event, stepped-same}
+use Rattle.monitor.proofs.{RunLaws.{last-event, whole-event, stepped-same}, one.Statement.statement}
 use borrow.Author.Needs.{needs}
-use Rattle.monitor.proofs.one.Statement.{statement}
 use Rattle.monitor.proofs.one.Tie as tie
 
 returns : tie.Need-returns

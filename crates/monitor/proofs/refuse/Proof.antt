@@ -1,8 +1,7 @@
 use Prim.Native.Nat.{_-_}
 use native.Mathlib.Omega.{arith}
 use borrow.Author.Needs.{needs}
-use Rattle.monitor.proofs.RunLaws.{Untold, untold-all, untold-less, untold-none}
-use Rattle.monitor.proofs.refuse.Statement.{statement}
+use Rattle.monitor.proofs.{RunLaws.{Untold, untold-all, untold-less, untold-none}, refuse.Statement.statement}
 use Rattle.monitor.proofs.refuse.Tie as tie
 
 abbrev Inv-loop : tie.InvT-loop

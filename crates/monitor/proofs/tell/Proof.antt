@@ -1,7 +1,6 @@
 use Prim.Native.Nat.{_*_}
 use lib.ListN.{length-set}
-use native.Mathlib.Numerals.{towards-suc}
-use native.Mathlib.Omega.{arith}
+use native.{Mathlib.Numerals.towards-suc, Mathlib.Omega.arith}
 use Rattle.octets.proofs.ByteLaws.{sets-put}
 use borrow.Author.Needs.{needs}
 use Rattle.monitor.proofs.tell.Statement.{statement}

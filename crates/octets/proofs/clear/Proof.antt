@@ -4,8 +4,7 @@ use mathlib.Core.Path.{_≡_, sym, ap, _∙_}
 use Prim.Native.Nat.{ℕ, _≤_, _-_}
 use lib.ListN.{length}
 use Rattle.octets.specs.Octets.{put, zeros}
-use Rattle.octets.proofs.ByteLaws.{put-none, zeros-next}
-use Rattle.octets.proofs.clear.Statement.{statement}
+use Rattle.octets.proofs.{ByteLaws.{put-none, zeros-next}, clear.Statement.statement}
 use Rattle.octets.proofs.clear.Tie as tie
 
 abbrev Inv-loop : tie.InvT-loop

@@ -1,7 +1,6 @@
 use native.Mathlib.Omega.{arith}
-use Rattle.octets.proofs.ByteLaws.{low-differs}
+use Rattle.octets.proofs.{ByteLaws.low-differs, is16.Statement.statement}
 use borrow.Author.Needs.{needs}
-use Rattle.octets.proofs.is16.Statement.{statement}
 use Rattle.octets.proofs.is16.Tie as tie
 
 returns : tie.Need-returns

@@ -1,6 +1,5 @@
-use Rattle.opening.proofs.ByParts.{i2-told}
+use Rattle.opening.proofs.{ByParts.i2-told, i2.Statement.statement}
 use borrow.Author.Needs.{needs}
-use Rattle.opening.proofs.i2.Statement.{statement}
 use Rattle.opening.proofs.i2.Tie as tie
 
 pub i2-spec : {M : Type 1} → statement M

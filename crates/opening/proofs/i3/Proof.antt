@@ -1,6 +1,5 @@
-use Rattle.opening.proofs.ByParts.{i3-present, i3-places, i3-cards}
+use Rattle.opening.proofs.{ByParts.{i3-present, i3-places, i3-cards}, i3.Statement.statement}
 use borrow.Author.Needs.{needs}
-use Rattle.opening.proofs.i3.Statement.{statement}
 use Rattle.opening.proofs.i3.Tie as tie
 
 pub i3-spec : {M : Type 1} → statement M

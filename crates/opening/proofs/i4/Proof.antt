@@ -1,6 +1,5 @@
-use Rattle.opening.proofs.ByParts.{i4-told}
+use Rattle.opening.proofs.{ByParts.i4-told, i4.Statement.statement}
 use borrow.Author.Needs.{needs}
-use Rattle.opening.proofs.i4.Statement.{statement}
 use Rattle.opening.proofs.i4.Tie as tie
 
 pub i4-spec : {M : Type 1} → statement M

@@ -1,6 +1,5 @@
-use Rattle.opening.proofs.ByParts.{i5-told}
+use Rattle.opening.proofs.{ByParts.i5-told, i5.Statement.statement}
 use borrow.Author.Needs.{needs}
-use Rattle.opening.proofs.i5.Statement.{statement}
 use Rattle.opening.proofs.i5.Tie as tie
 
 pub i5-spec : {M : Type 1} → statement M

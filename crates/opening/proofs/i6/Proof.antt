@@ -1,6 +1,5 @@
-use Rattle.opening.proofs.ByParts.{i6-told}
+use Rattle.opening.proofs.{ByParts.i6-told, i6.Statement.statement}
 use borrow.Author.Needs.{needs}
-use Rattle.opening.proofs.i6.Statement.{statement}
 use Rattle.opening.proofs.i6.Tie as tie
 
 pub i6-spec : {M : Type 1} → statement M

@@ -1,6 +1,5 @@
-use Rattle.opening.proofs.ByParts.{i7-told}
+use Rattle.opening.proofs.{ByParts.i7-told, i7.Statement.statement}
 use borrow.Author.Needs.{needs}
-use Rattle.opening.proofs.i7.Statement.{statement}
 use Rattle.opening.proofs.i7.Tie as tie
 
 pub i7-spec : {M : Type 1} → statement M

@@ -1,6 +1,5 @@
-use Rattle.opening.proofs.ByParts.{i8-told}
+use Rattle.opening.proofs.{ByParts.i8-told, i8.Statement.statement}
 use borrow.Author.Needs.{needs}
-use Rattle.opening.proofs.i8.Statement.{statement}
 use Rattle.opening.proofs.i8.Tie as tie
 
 pub i8-spec : {M : Type 1} → statement M

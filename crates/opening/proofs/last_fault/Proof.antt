@@ -1,7 +1,6 @@
-use Rattle.opening.proofs.Opens.{keeps-i6, keeps-i7, breaks-i6, breaks-i7, opens}
+use Rattle.opening.proofs.{Opens.{keeps-i6, keeps-i7, breaks-i6, breaks-i7, opens}, last_fault.Statement.statement}
 use Rattle.laws.proofs.Accepts.{true-T}
 use borrow.Author.Needs.{needs}
-use Rattle.opening.proofs.last_fault.Statement.{statement}
 use Rattle.opening.proofs.last_fault.Tie as tie
 
 i8-requires : tie.Need-i8-requires

@@ -1,6 +1,6 @@
 use Rattle.opening.proofs.Opens.{keeps-i2, keeps-i3, keeps-i4, keeps-i5, breaks-i2, breaks-i3, breaks-i4, breaks-i5, all-kept}
-use borrow.Author.Needs.{needs}
 use Rattle.opening.proofs.next_fault.Statement.{statement}
+use borrow.Author.Needs.{needs}
 use Rattle.opening.proofs.next_fault.Tie as tie
 
 last-fault-requires : tie.Need-last-fault-requires

@@ -1,7 +1,6 @@
-use Rattle.opening.proofs.Offsets.{small}
+use Rattle.opening.proofs.{Offsets.small, offset.Statement.statement}
 use native.Mathlib.Omega.{arith}
 use borrow.Author.Needs.{needs}
-use Rattle.opening.proofs.offset.Statement.{statement}
 use Rattle.opening.proofs.offset.Tie as tie
 
 pub offset-spec : {M : Type 1} → statement M

@@ -1,7 +1,6 @@
 use native.Mathlib.Omega.{arith}
-use Rattle.opening.proofs.Opens.{breaks-i1, is-framed, frames}
+use Rattle.opening.proofs.{Opens.{breaks-i1, is-framed, frames}, open.Statement.statement}
 use borrow.Author.Needs.{needs}
-use Rattle.opening.proofs.open.Statement.{statement}
 use Rattle.opening.proofs.open.Tie as tie
 
 next-fault-requires : tie.Need-next-fault-requires

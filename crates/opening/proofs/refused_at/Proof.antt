@@ -1,6 +1,5 @@
-use Rattle.opening.proofs.Offsets.{refuses}
+use Rattle.opening.proofs.{Offsets.refuses, refused_at.Statement.statement}
 use borrow.Author.Needs.{needs}
-use Rattle.opening.proofs.refused_at.Statement.{statement}
 use Rattle.opening.proofs.refused_at.Tie as tie
 
 returns : tie.Need-returns

@@ -1,7 +1,7 @@
-use Rattle.opening.proofs.Offsets.{header-stands, certificate-stands, card-headed, card-stands, executable-headed, executable-stands}
-use Rattle.opening.proofs.Offsets.{row-headed, row-stands}
-use borrow.Author.Needs.{needs}
+use Rattle.opening.proofs.Offsets.{header-stands, certificate-stands, card-headed, card-stands, executable-headed, executable-stands, row-headed}
+use Rattle.opening.proofs.Offsets.{row-stands}
 use Rattle.opening.proofs.span_of.Statement.{statement}
+use borrow.Author.Needs.{needs}
 use Rattle.opening.proofs.span_of.Tie as tie
 
 pub span-of-spec : {M : Type 1} → statement M

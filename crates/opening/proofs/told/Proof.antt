@@ -1,6 +1,5 @@
-use Rattle.opening.proofs.Offsets.{tells}
+use Rattle.opening.proofs.{Offsets.tells, told.Statement.statement}
 use borrow.Author.Needs.{needs}
-use Rattle.opening.proofs.told.Statement.{statement}
 use Rattle.opening.proofs.told.Tie as tie
 
 pub told-spec : {M : Type 1} → statement M

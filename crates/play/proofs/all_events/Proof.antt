@@ -1,8 +1,7 @@
 use native.Mathlib.Omega.{arith}
 use mathlib.Core.Path.{sym, _≡_}
 use Prim.Native.Nat.{_-_, _≤_}
-use lib.Seq.{length-take-le}
-use lib.ListN.{length}
+use lib.{Seq.length-take-le, ListN.length}
 use borrow.Author.Needs.{needs}
 use Rattle.rules.specs.AcceptedImage.{Accepted-image}
 use Rattle.stream.proofs.LinePlaces.{line-within}

@@ -1,7 +1,6 @@
 use mathlib.Core.Path.{_∙_}
-use Rattle.reasons.proofs.FirstDomain.{unsigned-chain, operator-chain, manufacturer-chain, third-party-chain, no-chain}
+use Rattle.reasons.proofs.{FirstDomain.{unsigned-chain, operator-chain, manufacturer-chain, third-party-chain, no-chain}, chain_of.Statement.statement}
 use borrow.Author.Needs.{needs}
-use Rattle.reasons.proofs.chain_of.Statement.{statement}
 use Rattle.reasons.proofs.chain_of.Tie as tie
 
 returns : tie.Need-returns

@@ -4,8 +4,7 @@ use mathlib.Core.Path.{_≡_, ap, _∙_}
 use Prim.Native.Nat.{_≤_, _-_}
 use lib.ListN.{length, length-set, take}
 use Rattle.octets.specs.Octets.{put}
-use Rattle.reasons.proofs.Room.{copy-none, copy-more}
-use Rattle.reasons.proofs.copy.Statement.{statement}
+use Rattle.reasons.proofs.{Room.{copy-none, copy-more}, copy.Statement.statement}
 use Rattle.reasons.proofs.copy.Tie as tie
 
 abbrev Inv-loop : tie.InvT-loop

@@ -1,6 +1,5 @@
-use Rattle.reasons.proofs.Room.{explained-whole}
+use Rattle.reasons.proofs.{Room.explained-whole, explain.Statement.statement}
 use borrow.Author.Needs.{needs}
-use Rattle.reasons.proofs.explain.Statement.{statement}
 use Rattle.reasons.proofs.explain.Tie as tie
 
 pub explain-spec : {M : Type 1} → statement M

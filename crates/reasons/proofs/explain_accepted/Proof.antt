@@ -1,8 +1,7 @@
 use Rattle.rules.specs.Codes.{is-executable}
 use Rattle.lookup.proofs.FoundSlot.{at-within}
-use Rattle.reasons.proofs.Whole.{told-no-id, told-unknown, told-known}
+use Rattle.reasons.proofs.{Whole.{told-no-id, told-unknown, told-known}, explain_accepted.Statement.statement}
 use borrow.Author.Needs.{needs}
-use Rattle.reasons.proofs.explain_accepted.Statement.{statement}
 use Rattle.reasons.proofs.explain_accepted.Tie as tie
 
 executable-requires : tie.Need-executable-requires

@@ -1,7 +1,6 @@
 use native.Mathlib.Omega.{arith}
-use Rattle.reasons.proofs.Room.{told-few, explained-short}
+use Rattle.reasons.proofs.{Room.{told-few, explained-short}, explain_short.Statement.statement}
 use borrow.Author.Needs.{needs}
-use Rattle.reasons.proofs.explain_short.Statement.{statement}
 use Rattle.reasons.proofs.explain_short.Tie as tie
 
 copy-requires : tie.Need-copy-requires

@@ -1,6 +1,5 @@
-use Rattle.reasons.proofs.Whole.{told-broken}
+use Rattle.reasons.proofs.{Whole.told-broken, explain_whole.Statement.statement}
 use borrow.Author.Needs.{needs}
-use Rattle.reasons.proofs.explain_whole.Statement.{statement}
 use Rattle.reasons.proofs.explain_whole.Tie as tie
 
 explain-accepted-requires : tie.Need-explain-accepted-requires

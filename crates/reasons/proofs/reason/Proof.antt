@@ -1,8 +1,6 @@
-use borrow.Author.Tests.{eq-eqb, ne-eqb}
+use borrow.{Author.Tests.{eq-eqb, ne-eqb}, Author.Needs.needs}
 use Rattle.explanations.specs.Why.{reason}
-use Rattle.reasons.proofs.Rows.{takes, skips, ends, not-is}
-use borrow.Author.Needs.{needs}
-use Rattle.reasons.proofs.reason.Statement.{statement}
+use Rattle.reasons.proofs.{Rows.{takes, skips, ends, not-is}, reason.Statement.statement}
 use Rattle.reasons.proofs.reason.Tie as tie
 
 returns : tie.Need-returns

@@ -4,9 +4,8 @@ use lib.ListN.{length}
 use Prim.Native.Nat.{_+_}
 use Rattle.octets.specs.Octets.{put}
 use Rattle.stream.specs.PrintedLines.{line}
-use Rattle.stream.proofs.LinePlaces.{room-there}
+use Rattle.stream.proofs.{LinePlaces.room-there, add_line.Statement.statement}
 use borrow.Author.Needs.{needs}
-use Rattle.stream.proofs.add_line.Statement.{statement}
 use Rattle.stream.proofs.add_line.Tie as tie
 
 put-line-requires : tie.Need-put-line-requires

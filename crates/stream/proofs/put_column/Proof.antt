@@ -1,7 +1,6 @@
 use native.Mathlib.Omega.{arith}
 use Prim.Native.Nat.{ℕ, _+_}
-use mathlib.Core.List.{List, [], _∷_}
-use mathlib.Core.Path.{ap, _∙_}
+use mathlib.Core.{List.{List, [], _∷_}, Path.{ap, _∙_}}
 use Rattle.octets.specs.Octets.{put}
 use Rattle.records.proofs.Puts.{put-next}
 use Rattle.stream.specs.Decimal.{decimal}

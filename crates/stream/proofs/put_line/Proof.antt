@@ -1,9 +1,7 @@
 use native.Mathlib.Omega.{arith}
 use mathlib.Core.Path.{refl}
-use Rattle.stream.proofs.JoinedTexts.{number-ends, column-ends}
-use Rattle.stream.proofs.JoinedTexts.{line-put}
+use Rattle.stream.proofs.{JoinedTexts.{number-ends, column-ends, line-put}, put_line.Statement.statement}
 use borrow.Author.Needs.{needs}
-use Rattle.stream.proofs.put_line.Statement.{statement}
 use Rattle.stream.proofs.put_line.Tie as tie
 
 -- the states behind the number and behind each column, from that behind what is put next

@@ -3,8 +3,7 @@ use native.Mathlib.Omega.{arith}
 use mathlib.Core.Path.{ap, _∙_}
 use lib.ListN.{length}
 use Rattle.octets.specs.Octets.{put}
-use Rattle.stream.proofs.Texts.{decimal-is, fewest-small}
-use Rattle.stream.proofs.put_number.Statement.{statement}
+use Rattle.stream.proofs.{Texts.{decimal-is, fewest-small}, put_number.Statement.statement}
 use Rattle.stream.proofs.put_number.Tie as tie
 
 put-text-requires : tie.Need-put-text-requires

@@ -1,8 +1,7 @@
 use native.Mathlib.Omega.{arith}
 use mathlib.Core.Path.{refl}
-use Rattle.stream.proofs.JoinedTexts.{column-ends, refusal-put}
+use Rattle.stream.proofs.{JoinedTexts.{column-ends, refusal-put}, put_refusal.Statement.statement}
 use borrow.Author.Needs.{needs}
-use Rattle.stream.proofs.put_refusal.Statement.{statement}
 use Rattle.stream.proofs.put_refusal.Tie as tie
 
 -- the state behind the offset's column, from that behind the line's end, and that behind the rule's, from that behind the offset's

@@ -1,12 +1,9 @@
 use borrow.Author.Needs.{needs}
 use native.Mathlib.Omega.{arith}
-use mathlib.Core.Path.{_≡_, ap, _∙_}
-use mathlib.Core.List.{List}
-use lib.ListN.{length, length-set, set, getD}
-use lib.Seq.{paste, paste-zero, paste-suc}
+use mathlib.Core.{Path.{_≡_, ap, _∙_}, List.List}
+use lib.{ListN.{length, length-set, set, getD}, Seq.{paste, paste-zero, paste-suc}}
 use Prim.Native.Nat.{ℕ, suc, _+_, _-_, _≤_}
-use Rattle.stream.proofs.Texts.{paste-put}
-use Rattle.stream.proofs.put_text.Statement.{statement}
+use Rattle.stream.proofs.{Texts.paste-put, put_text.Statement.statement}
 use Rattle.stream.proofs.put_text.Tie as tie
 
 abbrev Inv-loop : tie.InvT-loop

@@ -1,11 +1,9 @@
 use Prim.Native.Nat.{_+_}
-use lib.ListN.{length}
+use lib.{ListN.length, Seq.length-take-le}
 use Rattle.stream.specs.PrintedLines.{longest-line}
 use native.Mathlib.Omega.{arith}
 use mathlib.Core.Path.{sym}
-use borrow.Author.Tests.{le-leb, lt-leb}
-use lib.Seq.{length-take-le}
-use borrow.Author.Needs.{needs}
+use borrow.{Author.Tests.{le-leb, lt-leb}, Author.Needs.needs}
 use Rattle.stream.proofs.room.Statement.{statement}
 use Rattle.stream.proofs.room.Tie as tie
 

@@ -1,12 +1,8 @@
-use mathlib.Core.Bool.{_&&_, _||_, not, and-true}
-use mathlib.Core.Logic.{_≢_}
-use mathlib.Core.Path.{_≡_, ap}
-use borrow.Author.Tests.{eq-eqb, ne-eqb}
+use mathlib.Core.{Bool.{_&&_, _||_, not, and-true}, Logic._≢_, Path.{_≡_, ap}}
+use borrow.{Author.Tests.{eq-eqb, ne-eqb}, Author.Needs.needs}
 use lib.Dec.{eqb}
 use Rattle.records.specs.declared.Certificate.{Certificate}
-use Rattle.rules.specs.ImageRules.{certificate-ranges, root-fits, issued-fits, recovery-fits, certificate-fits}
-use Rattle.rules.specs.Words.{_implies_}
-use borrow.Author.Needs.{needs}
+use Rattle.rules.specs.{ImageRules.{certificate-ranges, root-fits, issued-fits, recovery-fits, certificate-fits}, Words._implies_}
 use Rattle.terms.proofs.certificate_fits.Statement.{statement}
 use Rattle.terms.proofs.certificate_fits.Tie as tie
 

@@ -1,7 +1,5 @@
-use native.Mathlib.Omega.{arith}
-use native.Mathlib.Nat.{one-mul}
-use lib.Pow.{shl-exact}
-use lib.Dec.{lit<}
+use native.{Mathlib.Omega.arith, Mathlib.Nat.one-mul}
+use lib.{Pow.shl-exact, Dec.lit<}
 use Rattle.rules.specs.ImageRules.{executable-fits}
 use borrow.Author.Needs.{needs}
 use Rattle.terms.proofs.executable_fits.Statement.{statement}

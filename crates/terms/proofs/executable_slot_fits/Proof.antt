@@ -1,5 +1,4 @@
-use borrow.Author.Tests.{eq-eqb, ne-eqb}
-use borrow.Author.Needs.{needs}
+use borrow.{Author.Tests.{eq-eqb, ne-eqb}, Author.Needs.needs}
 use Rattle.terms.proofs.executable_slot_fits.Statement.{statement}
 use Rattle.terms.proofs.executable_slot_fits.Tie as tie
 

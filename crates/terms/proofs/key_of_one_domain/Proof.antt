@@ -1,10 +1,8 @@
 use Prim.Native.Nat.{_%_}
-use mathlib.Core.Bool.{Bool, true, false, not, _&&_, _||_}
-use mathlib.Core.Path.{_≡_, refl, ap}
+use mathlib.Core.{Bool.{Bool, true, false, not, _&&_, _||_}, Path.{_≡_, refl, ap}}
 use borrow.Author.Tests.{ne-eqb}
 use lib.Dec.{eqb}
-use Rattle.rules.specs.ImageRules.{key-of-one-domain}
-use Rattle.rules.specs.Words.{_implies_}
+use Rattle.rules.specs.{ImageRules.key-of-one-domain, Words._implies_}
 use Rattle.terms.proofs.key_of_one_domain.Statement.{statement}
 use Rattle.terms.proofs.key_of_one_domain.Tie as tie
 

@@ -1,6 +1,4 @@
-use mathlib.Core.Bool.{false, not, _&&_, and-true, and-false}
-use mathlib.Core.Logic.{_≢_}
-use mathlib.Core.Path.{_≡_}
+use mathlib.Core.{Bool.{false, not, _&&_, and-true, and-false}, Logic._≢_, Path._≡_}
 use borrow.Author.Tests.{eq-eqb, ne-eqb}
 use lib.Dec.{eqb}
 use Rattle.records.specs.declared.Certificate.{Certificate}

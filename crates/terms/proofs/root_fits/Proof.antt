@@ -1,5 +1,4 @@
-use Rattle.rules.specs.ImageRules.{root-fits}
-use Rattle.rules.specs.Words.{_implies_}
+use Rattle.rules.specs.{ImageRules.root-fits, Words._implies_}
 use Rattle.terms.proofs.root_fits.Statement.{statement}
 use Rattle.terms.proofs.root_fits.Tie as tie
 

@@ -1,7 +1,5 @@
-use native.Mathlib.Omega.{arith}
-use native.Mathlib.Nat.{add-assoc, add-zero}
-use Rattle.rules.specs.ImageRules.{zero-certificate}
-use Rattle.rules.specs.Words.{all-zero}
+use native.{Mathlib.Omega.arith, Mathlib.Nat.{add-assoc, add-zero}}
+use Rattle.rules.specs.{ImageRules.zero-certificate, Words.all-zero}
 use borrow.Author.Needs.{needs}
 use Rattle.terms.proofs.zero_certificate.Statement.{statement}
 use Rattle.terms.proofs.zero_certificate.Tie as tie

@@ -1,6 +1,5 @@
 use native.Mathlib.Nat.{add-assoc, add-zero}
-use Rattle.rules.specs.ImageRules.{zero-executable}
-use Rattle.rules.specs.Words.{all-zero}
+use Rattle.rules.specs.{ImageRules.zero-executable, Words.all-zero}
 use borrow.Author.Needs.{needs}
 use Rattle.terms.proofs.zero_executable.Statement.{statement}
 use Rattle.terms.proofs.zero_executable.Tie as tie

@@ -1,6 +1,5 @@
 use borrow.Author.Needs.{needs}
-use Rattle.timeline.proofs.Framed.{framed-so, fits-not, fits-so}
-use Rattle.timeline.proofs.fits.Statement.{statement}
+use Rattle.timeline.proofs.{Framed.{framed-so, fits-not, fits-so}, fits.Statement.statement}
 use Rattle.timeline.proofs.fits.Tie as tie
 
 returns : tie.Need-returns

@@ -4,8 +4,7 @@ use Prim.Native.Nat.{_≤_, _-_}
 use mathlib.Core.Path.{_≡_, refl}
 use lib.ListN.{drop}
 use Rattle.timeline.specs.Timeline.{timed-count, timed, in-time}
-use Rattle.timeline.proofs.Framed.{framed-header, in-time-stops, in-time-goes-on, in-time-ends}
-use Rattle.timeline.proofs.in_time.Statement.{statement}
+use Rattle.timeline.proofs.{Framed.{framed-header, in-time-stops, in-time-goes-on, in-time-ends}, in_time.Statement.statement}
 use Rattle.timeline.proofs.in_time.Tie as tie
 
 abbrev Inv-loop : tie.InvT-loop

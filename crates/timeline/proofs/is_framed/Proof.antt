@@ -1,5 +1,4 @@
-use borrow.Author.Needs.{needs}
-use borrow.Author.Tests.{lt-leb, le-leb}
+use borrow.{Author.Needs.needs, Author.Tests.{lt-leb, le-leb}}
 use Rattle.timeline.specs.Timeline.{timeline-framed}
 use Rattle.timeline.proofs.is_framed.Statement.{statement}
 use Rattle.timeline.proofs.is_framed.Tie as tie

@@ -1,6 +1,5 @@
 use borrow.Author.Needs.{needs}
-use Rattle.timeline.proofs.EventsPlaced.{clock-placed}
-use Rattle.timeline.proofs.put_clock.Statement.{statement}
+use Rattle.timeline.proofs.{EventsPlaced.clock-placed, put_clock.Statement.statement}
 use Rattle.timeline.proofs.put_clock.Tie as tie
 
 returns : tie.Need-returns

@@ -1,7 +1,6 @@
 use native.Mathlib.Omega.{arith}
 use borrow.Author.Needs.{needs}
-use Rattle.timeline.proofs.EventsPlaced.{event-out, event-copied}
-use Rattle.timeline.proofs.put_event.Statement.{statement}
+use Rattle.timeline.proofs.{EventsPlaced.{event-out, event-copied}, put_event.Statement.statement}
 use Rattle.timeline.proofs.put_event.Tie as tie
 
 abbrev start : tie.After-copy → tie.Start

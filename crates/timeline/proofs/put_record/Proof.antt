@@ -1,9 +1,7 @@
 use native.Mathlib.Omega.{arith}
 use borrow.Author.Needs.{needs}
 use Rattle.timeline.specs.Timeline.{timed-at}
-use Rattle.timeline.proofs.Framed.{framed-few, event-within}
-use Rattle.timeline.proofs.EventsPlaced.{event-part, placed-one, placed-two}
-use Rattle.timeline.proofs.put_record.Statement.{statement}
+use Rattle.timeline.proofs.{Framed.{framed-few, event-within}, EventsPlaced.{event-part, placed-one, placed-two}, put_record.Statement.statement}
 use Rattle.timeline.proofs.put_record.Tie as tie
 
 abbrev start : tie.After-second → tie.Start

@@ -3,8 +3,7 @@ use mathlib.Core.Path.{_≡_}
 use native.Mathlib.Omega.{arith}
 use borrow.Author.Needs.{needs}
 use Rattle.timeline.specs.Timeline.{timed-count, timed, unrolled}
-use Rattle.timeline.proofs.Framed.{framed-header}
-use Rattle.timeline.proofs.EventsPlaced.{Unrolling, unrolling-starts, unrolling-goes-on, unrolling-ends}
+use Rattle.timeline.proofs.{Framed.framed-header, EventsPlaced.{Unrolling, unrolling-starts, unrolling-goes-on, unrolling-ends}}
 use Rattle.timeline.proofs.put_records.Statement.{statement}
 use Rattle.timeline.proofs.put_records.Tie as tie
 

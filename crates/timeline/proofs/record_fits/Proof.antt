@@ -1,6 +1,5 @@
 use native.Mathlib.Omega.{arith}
-use Rattle.timeline.proofs.Framed.{framed-few, framed-whole, fits-by}
-use Rattle.timeline.proofs.record_fits.Statement.{statement}
+use Rattle.timeline.proofs.{Framed.{framed-few, framed-whole, fits-by}, record_fits.Statement.statement}
 use Rattle.timeline.proofs.record_fits.Tie as tie
 
 returns : tie.Need-returns

@@ -1,7 +1,6 @@
 use mathlib.Core.Path.{_∙_}
 use native.Mathlib.Omega.{arith}
-use Rattle.timeline.proofs.Framed.{framed-few, framed-whole, second-there}
-use Rattle.timeline.proofs.second.Statement.{statement}
+use Rattle.timeline.proofs.{Framed.{framed-few, framed-whole, second-there}, second.Statement.statement}
 use Rattle.timeline.proofs.second.Tie as tie
 
 read32-requires : tie.Need-read32-requires

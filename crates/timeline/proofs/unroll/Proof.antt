@@ -1,6 +1,5 @@
 use borrow.Author.Needs.{needs}
-use Rattle.timeline.proofs.UnrollsTold.{opened-framed, framed-fit, unrolls-broken, unrolls-unfit, unrolls-fit}
-use Rattle.timeline.proofs.unroll.Statement.{statement}
+use Rattle.timeline.proofs.{UnrollsTold.{opened-framed, framed-fit, unrolls-broken, unrolls-unfit, unrolls-fit}, unroll.Statement.statement}
 use Rattle.timeline.proofs.unroll.Tie as tie
 
 returns : tie.Need-returns

@@ -1,9 +1,8 @@
-use Rattle.vectors.proofs.ComparedParts.{front-back}
+use Rattle.vectors.proofs.{ComparedParts.front-back, way_differs.Statement.statement}
 use native.Mathlib.Omega.{arith}
 use mathlib.Core.Path.{sym}
 use lib.Seq.{length-take-le}
 use borrow.Author.Needs.{needs}
-use Rattle.vectors.proofs.way_differs.Statement.{statement}
 use Rattle.vectors.proofs.way_differs.Tie as tie
 
 -- the states behind the least and behind the run, each from a later one

@@ -1,9 +1,8 @@
 use Prim.Native.Nat.{ℕ}
 use mathlib.Core.Path.{ap}
 use lib.Dec.{eqb}
-use Rattle.why.proofs.PrintedAnswer.{code-told}
+use Rattle.why.proofs.{PrintedAnswer.code-told, is_unknown.Statement.statement}
 use borrow.Author.Needs.{needs}
-use Rattle.why.proofs.is_unknown.Statement.{statement}
 use Rattle.why.proofs.is_unknown.Tie as tie
 
 returns : tie.Need-returns

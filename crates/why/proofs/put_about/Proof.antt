@@ -1,9 +1,8 @@
 use native.Mathlib.Omega.{arith}
 use mathlib.Core.Path.{refl}
 use Rattle.stream.proofs.JoinedTexts.{number-ends}
-use Rattle.why.proofs.Sentences.{about-put}
+use Rattle.why.proofs.{Sentences.about-put, put_about.Statement.statement}
 use borrow.Author.Needs.{needs}
-use Rattle.why.proofs.put_about.Statement.{statement}
 use Rattle.why.proofs.put_about.Tie as tie
 
 -- the states behind the number, behind the words before it and at the start, from that behind the next

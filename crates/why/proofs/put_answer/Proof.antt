@@ -1,7 +1,6 @@
 use native.Mathlib.Omega.{arith}
-use Rattle.why.proofs.PrintedAnswer.{said-first, text-refused, text-unknown, lines-told, text-page}
+use Rattle.why.proofs.{PrintedAnswer.{said-first, text-refused, text-unknown, lines-told, text-page}, put_answer.Statement.statement}
 use borrow.Author.Needs.{needs}
-use Rattle.why.proofs.put_answer.Statement.{statement}
 use Rattle.why.proofs.put_answer.Tie as tie
 
 returns : tie.Need-returns

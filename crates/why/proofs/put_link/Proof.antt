@@ -1,9 +1,8 @@
 use native.Mathlib.Omega.{arith}
 use Rattle.why.specs.SentenceText.{certificate, ended, is-verified-by, about}
 use Rattle.stream.proofs.JoinedTexts.{then, said}
-use Rattle.why.proofs.Sentences.{about-ends, link-first, link-next}
+use Rattle.why.proofs.{Sentences.{about-ends, link-first, link-next}, put_link.Statement.statement}
 use borrow.Author.Needs.{needs}
-use Rattle.why.proofs.put_link.Statement.{statement}
 use Rattle.why.proofs.put_link.Tie as tie
 
 returns : tie.Need-returns

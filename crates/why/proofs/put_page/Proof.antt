@@ -6,9 +6,7 @@ use Rattle.octets.specs.Octets.{put}
 use Rattle.explanations.specs.Why.{line}
 use Rattle.stream.proofs.JoinedTexts.{Put}
 use Rattle.why.specs.SentenceText.{longest-sentence, page, lines-said}
-use Rattle.why.proofs.Sentences.{sentence-small}
-use Rattle.why.proofs.Pages.{last-id, page-none, page-next}
-use Rattle.why.proofs.put_page.Statement.{statement}
+use Rattle.why.proofs.{Sentences.sentence-small, Pages.{last-id, page-none, page-next}, put_page.Statement.statement}
 use Rattle.why.proofs.put_page.Tie as tie
 
 -- the page of the first i lines stands, and the id above the next is that of the last of them

@@ -2,9 +2,8 @@ use Prim.Native.Nat.{ℕ}
 use mathlib.Core.Path.{ap}
 use Rattle.why.specs.SentenceText.{reason-sentence}
 use Rattle.stream.proofs.JoinedTexts.{said, nothing}
-use Rattle.why.proofs.Sentences.{reason-none}
+use Rattle.why.proofs.{Sentences.reason-none, put_reason.Statement.statement}
 use borrow.Author.Needs.{needs}
-use Rattle.why.proofs.put_reason.Statement.{statement}
 use Rattle.why.proofs.put_reason.Tie as tie
 
 returns : tie.Need-returns

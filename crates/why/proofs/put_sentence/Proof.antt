@@ -3,9 +3,8 @@ use mathlib.Core.Path.{ap}
 use Rattle.explanations.specs.Why.{line}
 use Rattle.why.specs.SentenceText.{sentence}
 use Rattle.stream.proofs.JoinedTexts.{said}
-use Rattle.why.proofs.Sentences.{sentence-reason}
+use Rattle.why.proofs.{Sentences.sentence-reason, put_sentence.Statement.statement}
 use borrow.Author.Needs.{needs}
-use Rattle.why.proofs.put_sentence.Statement.{statement}
 use Rattle.why.proofs.put_sentence.Tie as tie
 
 returns : tie.Need-returns

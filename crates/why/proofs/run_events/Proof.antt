@@ -2,12 +2,10 @@ use Prim.Native.Nat.{_-_, _≤_}
 use mathlib.Core.Path.{sym, _≡_}
 use native.Mathlib.Omega.{arith}
 use borrow.Author.Needs.{needs}
-use lib.ListN.{length}
-use lib.Seq.{length-take-le}
+use lib.{ListN.length, Seq.length-take-le}
 use Rattle.rules.specs.AcceptedImage.{Accepted-image}
 use Rattle.why.specs.EventsRun.{Ran-at-most}
-use Rattle.why.proofs.RunOfEvents.{ran-none, ran-one-more, ran-fewer}
-use Rattle.why.proofs.run_events.Statement.{statement}
+use Rattle.why.proofs.{RunOfEvents.{ran-none, ran-one-more, ran-fewer}, run_events.Statement.statement}
 use Rattle.why.proofs.run_events.Tie as tie
 
 abbrev Inv-loop : tie.InvT-loop

@@ -3,9 +3,8 @@ use mathlib.Core.Path.{sym}
 use lib.Seq.{length-take-le}
 use Rattle.stream.proofs.JoinedTexts.{start-within}
 use Rattle.why.specs.SentenceText.{answer-text}
-use Rattle.why.proofs.PrintedAnswer.{answer-small}
+use Rattle.why.proofs.{PrintedAnswer.answer-small, tell.Statement.statement}
 use borrow.Author.Needs.{needs}
-use Rattle.why.proofs.tell.Statement.{statement}
 use Rattle.why.proofs.tell.Tie as tie
 
 array-share-prefix-out : tie.Need-array-share-prefix-out

@@ -1,6 +1,5 @@
 use borrow.Author.Needs.{needs}
-use Rattle.bits.proofs.WordLaws.{rest-of}
-use Rattle.bits.proofs.slots.rest.Statement.{statement}
+use Rattle.bits.proofs.{WordLaws.rest-of, slots.rest.Statement.statement}
 use Rattle.bits.proofs.slots.rest.Tie as tie
 
 returns : tie.Need-returns

@@ -1,6 +1,5 @@
 use borrow.Author.Needs.{needs}
-use Rattle.bits.proofs.BitLaws.{or-put}
-use Rattle.bits.proofs.slots.with_slot.Statement.{statement}
+use Rattle.bits.proofs.{BitLaws.or-put, slots.with_slot.Statement.statement}
 use Rattle.bits.proofs.slots.with_slot.Tie as tie
 
 returns : tie.Need-returns

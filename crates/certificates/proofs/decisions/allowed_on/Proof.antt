@@ -1,17 +1,12 @@
 use Prim.Native.Nat.{ℕ}
-use mathlib.Core.Bool.{Bool, not, _&&_, _||_}
-use mathlib.Core.Path.{_≡_, sym, ap, ap₂, _∙_}
+use mathlib.Core.{Bool.{Bool, not, _&&_, _||_}, Path.{_≡_, sym, ap, ap₂, _∙_}}
 use native.Mathlib.Omega.{arith}
 use lib.ListN.{drop}
 use Rattle.records.specs.Phone.{decode}
-use Rattle.rules.specs.Words.{first}
-use Rattle.rules.specs.Actors.{may-act, acts-for}
-use Rattle.rules.specs.Forms.{with-kind}
-use Rattle.rules.specs.Codes.{has-id, certificate-named}
+use Rattle.rules.specs.{Words.first, Actors.{may-act, acts-for}, Forms.with-kind, Codes.{has-id, certificate-named}}
 use Rattle.lookup.proofs.FoundSlot.{at-first, at-within}
 use Rattle.handling.specs.Plans.{allowed-rows}
-use Rattle.handling.proofs.CodeRows.{Gives, none, here, next, gives}
-use Rattle.handling.proofs.PlanLaws.{plan-refused, plan-on}
+use Rattle.handling.proofs.{CodeRows.{Gives, none, here, next, gives}, PlanLaws.{plan-refused, plan-on}}
 use Rattle.handling.proofs.Named.{certificate-here, certificate-missing, certificate-found}
 use borrow.Author.Needs.{needs}
 use Rattle.certificates.proofs.decisions.allowed_on.Statement.{statement}

@@ -1,10 +1,9 @@
 use mathlib.Core.Bool.{false}
 use native.Mathlib.Omega.{arith}
 use Rattle.handling.proofs.Decided.{unformed, formed}
-use Rattle.certificates.proofs.NamedCertificate.{allowed-within, then-present}
-use Rattle.certificates.proofs.CertificateCodes.{delete-told}
-use borrow.Author.Needs.{needs}
+use Rattle.certificates.proofs.{NamedCertificate.{allowed-within, then-present}, CertificateCodes.delete-told}
 use Rattle.certificates.proofs.decisions.delete_certificate.Statement.{statement}
+use borrow.Author.Needs.{needs}
 use Rattle.certificates.proofs.decisions.delete_certificate.Tie as tie
 
 abbrev start : tie.After-allowed-on → tie.Start

@@ -1,7 +1,5 @@
-use mathlib.Core.Bool.{Bool, cond}
-use mathlib.Core.Path.{_≡_, sym, ap, _∙_}
-use borrow.Author.Needs.{needs}
-use borrow.Author.Tests.{not-true, not-false}
+use mathlib.Core.{Bool.{Bool, cond}, Path.{_≡_, sym, ap, _∙_}}
+use borrow.{Author.Needs.needs, Author.Tests.{not-true, not-false}}
 use Rattle.records.specs.Phone.{decode}
 use Rattle.rules.specs.Chains.{present}
 use Rattle.handling.specs.declared.Plan.{Plan}

@@ -1,19 +1,15 @@
 use Prim.Native.Nat.{ℕ}
-use mathlib.Core.Bool.{cond}
-use mathlib.Core.Path.{_≡_, sym, ap, _∙_}
+use mathlib.Core.{Bool.cond, Path.{_≡_, sym, ap, _∙_}}
 use native.Mathlib.Omega.{arith}
 use lib.ListN.{drop}
 use Rattle.records.specs.Phone.{decode}
-use Rattle.rules.specs.Forms.{with-kind, new-certificate}
-use Rattle.rules.specs.Codes.{certificate-known, code-of}
+use Rattle.rules.specs.{Forms.{with-kind, new-certificate}, Codes.{certificate-known, code-of}}
 use Rattle.lookup.specs.declared.CertificateRoom.{CertificateRoom}
-use Rattle.handling.proofs.CodeRows.{Gives, here, next, rest, says}
-use Rattle.handling.proofs.PlanLaws.{plan-refused, plan-on}
+use Rattle.handling.proofs.{CodeRows.{Gives, here, next, rest, says}, PlanLaws.{plan-refused, plan-on}}
 use Rattle.terms.proofs.FormTests.{domain-below}
-use Rattle.certificates.proofs.CertificateCodes.{install-rows, install-told}
-use Rattle.certificates.proofs.CertificateRooms.{certificate-code, certificate-told, certificate-filled}
-use borrow.Author.Needs.{needs}
+use Rattle.certificates.proofs.{CertificateCodes.{install-rows, install-told}, CertificateRooms.{certificate-code, certificate-told, certificate-filled}}
 use Rattle.certificates.proofs.decisions.install_certificate.Statement.{statement}
+use borrow.Author.Needs.{needs}
 use Rattle.certificates.proofs.decisions.install_certificate.Tie as tie
 
 abbrev start : tie.After-new-certificate → tie.Start

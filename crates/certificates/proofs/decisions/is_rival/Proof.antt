@@ -1,8 +1,6 @@
-use mathlib.Core.Bool.{Bool, true, false, _&&_}
-use mathlib.Core.Path.{_≡_, sym, ap, ap₂, _∙_}
-use borrow.Author.Tests.{eq-eqb, ne-eqb, not-true, not-false}
+use mathlib.Core.{Bool.{Bool, true, false, _&&_}, Path.{_≡_, sym, ap, ap₂, _∙_}}
+use borrow.{Author.Tests.{eq-eqb, ne-eqb, not-true, not-false}, Author.Needs.needs}
 use Rattle.rules.specs.Chains.{valid-root}
-use borrow.Author.Needs.{needs}
 use Rattle.certificates.proofs.decisions.is_rival.Statement.{statement}
 use Rattle.certificates.proofs.decisions.is_rival.Tie as tie
 

@@ -1,15 +1,10 @@
 use Prim.Native.Nat.{ℕ, _+_, _<_, _≤_, _-_}
-use mathlib.Core.Bool.{Bool, cond, not}
-use mathlib.Core.List.{List}
-use mathlib.Core.Path.{_≡_, refl, sym, ap, _∙_}
+use mathlib.Core.{Bool.{Bool, cond, not}, List.List, Path.{_≡_, refl, sym, ap, _∙_}}
 use native.Mathlib.Omega.{arith}
 use borrow.Author.Needs.{needs}
 use lib.ListN.{length, getD, drop}
 use Rattle.records.specs.Phone.{decode}
-use Rattle.rules.specs.Words.{any}
-use Rattle.rules.specs.ImageRules.{third-party-root}
-use Rattle.rules.specs.Forms.{listed}
-use Rattle.rules.specs.Codes.{has-id, certificate-named, certificate-known}
+use Rattle.rules.specs.{Words.any, ImageRules.third-party-root, Forms.listed, Codes.{has-id, certificate-named, certificate-known}}
 use Rattle.laws.proofs.Loops.{any-stops, any-goes-on, any-fails}
 use Rattle.lookup.proofs.FoundSlot.{at-first, at-within}
 use Rattle.handling.proofs.Named.{certificate-here, certificate-missing, certificate-found}

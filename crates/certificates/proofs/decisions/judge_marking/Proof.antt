@@ -1,17 +1,11 @@
 use Prim.Native.Nat.{ℕ}
-use mathlib.Core.Bool.{not}
-use mathlib.Core.List.{List, [], _∷_, _++_}
-use mathlib.Core.Path.{_≡_, ap, ap₂, _∙_}
+use mathlib.Core.{Bool.not, List.{List, [], _∷_, _++_}, Path.{_≡_, ap, ap₂, _∙_}}
 use borrow.Author.Needs.{needs}
-use Rattle.records.specs.Phone.{decode, certificate-at}
-use Rattle.records.specs.declared.Certificate.{Certificate}
-use Rattle.rules.specs.Words.{Check, _⇒_, first}
-use Rattle.rules.specs.Chains.{in-date}
-use Rattle.handling.proofs.CodeRows.{none, here, next, gives, says}
-use Rattle.handling.proofs.PlanLaws.{stands, decides}
+use Rattle.records.specs.{Phone.{decode, certificate-at}, declared.Certificate.Certificate}
+use Rattle.rules.specs.{Words.{Check, _⇒_, first}, Chains.in-date}
+use Rattle.handling.proofs.{CodeRows.{none, here, next, gives, says}, PlanLaws.{stands, decides}}
 use Rattle.certificates.specs.MarkingRows.{validity-rows}
-use Rattle.certificates.proofs.Rivals.{read-fits, read-there}
-use Rattle.certificates.proofs.decisions.judge_marking.Statement.{statement}
+use Rattle.certificates.proofs.{Rivals.{read-fits, read-there}, decisions.judge_marking.Statement.statement}
 use Rattle.certificates.proofs.decisions.judge_marking.Tie as tie
 
 abbrev start : tie.After-in-date → tie.Start

@@ -1,19 +1,12 @@
 use Prim.Native.Nat.{ℕ}
-use mathlib.Core.Bool.{Bool, not}
-use mathlib.Core.List.{List, [], _∷_, _++_}
-use mathlib.Core.Path.{_≡_, sym, ap, _∙_}
-use lib.Dec.{ltb}
-use lib.ListN.{drop}
-use Rattle.records.specs.Phone.{decode, certificate-at}
-use Rattle.records.specs.declared.Certificate.{Certificate}
-use Rattle.rules.specs.Words.{any, Check, _⇒_, first}
-use Rattle.rules.specs.Codes.{in-another, may-replace}
-use Rattle.handling.proofs.CodeRows.{Gives, none, here, next, rest, gives, says, says-below, says-not-below}
-use Rattle.handling.proofs.PlanLaws.{stands, decides}
+use mathlib.Core.{Bool.{Bool, not}, List.{List, [], _∷_, _++_}, Path.{_≡_, sym, ap, _∙_}}
+use lib.{Dec.ltb, ListN.drop}
+use Rattle.records.specs.{Phone.{decode, certificate-at}, declared.Certificate.Certificate}
+use Rattle.rules.specs.{Words.{any, Check, _⇒_, first}, Codes.{in-another, may-replace}}
+use Rattle.handling.proofs.{CodeRows.{Gives, none, here, next, rest, gives, says, says-below, says-not-below}, PlanLaws.{stands, decides}}
 use Rattle.certificates.specs.MarkingRows.{validity-rows, replacing-rows}
 use borrow.Author.Needs.{needs}
-use Rattle.certificates.proofs.Rivals.{read-fits, read-there}
-use Rattle.certificates.proofs.decisions.judge_replacing.Statement.{statement}
+use Rattle.certificates.proofs.{Rivals.{read-fits, read-there}, decisions.judge_replacing.Statement.statement}
 use Rattle.certificates.proofs.decisions.judge_replacing.Tie as tie
 
 abbrev start : tie.After-certificate → tie.Start

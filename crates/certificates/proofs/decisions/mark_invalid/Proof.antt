@@ -1,20 +1,13 @@
 use Prim.Native.Nat.{ℕ}
-use mathlib.Core.Bool.{false, not}
-use mathlib.Core.List.{List}
-use mathlib.Core.Path.{_≡_, ap, _∙_}
+use mathlib.Core.{Bool.{false, not}, List.List, Path.{_≡_, ap, _∙_}}
 use native.Mathlib.Omega.{arith}
-use borrow.Author.Tests.{eq-eqb, ne-eqb}
-use Rattle.records.specs.Phone.{decode}
-use Rattle.records.specs.declared.Certificate.{Certificate}
-use Rattle.rules.specs.Words.{Check, first}
-use Rattle.rules.specs.Codes.{certificate-named}
-use Rattle.handling.proofs.Decided.{unformed}
-use Rattle.handling.proofs.CodeRows.{none, here, next, gives}
+use borrow.{Author.Tests.{eq-eqb, ne-eqb}, Author.Needs.needs}
+use Rattle.records.specs.{Phone.decode, declared.Certificate.Certificate}
+use Rattle.rules.specs.{Words.{Check, first}, Codes.certificate-named}
+use Rattle.handling.proofs.{Decided.unformed, CodeRows.{none, here, next, gives}}
 use Rattle.certificates.proofs.NamedCertificate.{Onward, allowed-within, then-present, row-within, row-named, row-refuses, rest-refuses, none-refuses}
+use Rattle.certificates.proofs.{CertificateCodes.{root-row, mark-invalid-told}, decisions.mark_invalid.Statement.statement}
 use Rattle.certificates.specs.Decisions.{certificate-plan}
-use Rattle.certificates.proofs.CertificateCodes.{root-row, mark-invalid-told}
-use borrow.Author.Needs.{needs}
-use Rattle.certificates.proofs.decisions.mark_invalid.Statement.{statement}
 use Rattle.certificates.proofs.decisions.mark_invalid.Tie as tie
 
 abbrev start : tie.After-allowed-on → tie.Start

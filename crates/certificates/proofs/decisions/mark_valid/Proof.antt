@@ -1,19 +1,13 @@
 use Prim.Native.Nat.{ℕ}
-use mathlib.Core.Bool.{false}
-use mathlib.Core.List.{List}
-use mathlib.Core.Path.{_≡_, refl, sym, ap, _∙_}
+use mathlib.Core.{Bool.false, List.List, Path.{_≡_, refl, sym, ap, _∙_}}
 use native.Mathlib.Omega.{arith}
-use Rattle.records.specs.Phone.{decode, certificate-at}
-use Rattle.records.specs.declared.Certificate.{Certificate}
-use Rattle.rules.specs.Words.{Check, first}
-use Rattle.rules.specs.Codes.{certificate-named}
+use Rattle.records.specs.{Phone.{decode, certificate-at}, declared.Certificate.Certificate}
+use Rattle.rules.specs.{Words.{Check, first}, Codes.certificate-named}
 use Rattle.handling.proofs.Decided.{unformed}
 use Rattle.certificates.proofs.NamedCertificate.{Onward, allowed-within, then-present, row-present, row-named, row-refuses, rest-refuses, none-refuses}
-use Rattle.certificates.specs.Decisions.{certificate-plan}
-use Rattle.certificates.proofs.CertificateCodes.{mark-valid-told}
-use Rattle.certificates.specs.MarkingRows.{marking-rows}
+use Rattle.certificates.proofs.{CertificateCodes.mark-valid-told, decisions.mark_valid.Statement.statement}
+use Rattle.certificates.specs.{Decisions.certificate-plan, MarkingRows.marking-rows}
 use borrow.Author.Needs.{needs}
-use Rattle.certificates.proofs.decisions.mark_valid.Statement.{statement}
 use Rattle.certificates.proofs.decisions.mark_valid.Tie as tie
 
 abbrev start : tie.After-allowed-on → tie.Start

@@ -1,19 +1,13 @@
 use Prim.Native.Nat.{ℕ, _≤_}
-use mathlib.Core.Bool.{Bool, false, not}
-use mathlib.Core.Path.{_≡_}
+use mathlib.Core.{Bool.{Bool, false, not}, Path._≡_}
 use native.Mathlib.Omega.{arith}
 use lib.ListN.{drop}
 use Rattle.records.specs.Phone.{decode}
-use Rattle.rules.specs.Forms.{with-kind, listed}
-use Rattle.rules.specs.Words.{any, first}
-use Rattle.rules.specs.ImageRules.{third-party-root}
-use Rattle.rules.specs.Codes.{certificate-named, certificate-known, code-of}
+use Rattle.rules.specs.{Forms.{with-kind, listed}, Words.{any, first}, ImageRules.third-party-root, Codes.{certificate-named, certificate-known, code-of}}
 use Rattle.handling.proofs.CodeRows.{Gives, rest, here, next, says}
-use Rattle.certificates.proofs.CertificateCodes.{message-rows, message-told}
-use Rattle.terms.proofs.FormTests.{message-listed}
-use Rattle.terms.proofs.Listed.{told-unknown, told-known, told-other}
+use Rattle.certificates.proofs.{CertificateCodes.{message-rows, message-told}, decisions.message.Statement.statement}
+use Rattle.terms.proofs.{FormTests.message-listed, Listed.{told-unknown, told-known, told-other}}
 use borrow.Author.Needs.{needs}
-use Rattle.certificates.proofs.decisions.message.Statement.{statement}
 use Rattle.certificates.proofs.decisions.message.Tie as tie
 
 -- r is the code where the rows after the first n give it

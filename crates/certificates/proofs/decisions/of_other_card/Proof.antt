@@ -1,7 +1,6 @@
 use Rattle.records.specs.Phone.{decode}
-use Rattle.certificates.proofs.Owners.{other-card, not-on-card}
+use Rattle.certificates.proofs.{Owners.{other-card, not-on-card}, decisions.of_other_card.Statement.statement}
 use borrow.Author.Needs.{needs}
-use Rattle.certificates.proofs.decisions.of_other_card.Statement.{statement}
 use Rattle.certificates.proofs.decisions.of_other_card.Tie as tie
 
 abbrev start : tie.After-on-a-card → tie.Start

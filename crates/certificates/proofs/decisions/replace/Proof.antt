@@ -1,19 +1,14 @@
-use mathlib.Core.Bool.{not}
-use mathlib.Core.Path.{_≡_, refl, ap, _∙_}
+use mathlib.Core.{Bool.not, Path.{_≡_, refl, ap, _∙_}}
 use native.Mathlib.Omega.{arith}
 use Rattle.records.specs.Phone.{decode}
-use Rattle.rules.specs.Words.{first-place}
-use Rattle.rules.specs.Codes.{has-id, certificate-named}
+use Rattle.rules.specs.{Words.first-place, Codes.{has-id, certificate-named}}
 use Rattle.handling.specs.Plans.{plan}
-use Rattle.handling.proofs.Decided.{unformed, formed}
-use Rattle.handling.proofs.CodeRows.{here, next, rest, gives}
-use Rattle.handling.proofs.PlanLaws.{plan-refused}
+use Rattle.handling.proofs.{Decided.{unformed, formed}, CodeRows.{here, next, rest, gives}, PlanLaws.plan-refused}
 use Rattle.handling.proofs.Named.{certificate-here, certificate-missing, certificate-found}
 use Rattle.lookup.proofs.FoundSlot.{at-first, at-within}
 use Rattle.certificates.specs.MarkingRows.{replace-plan}
-use Rattle.certificates.proofs.CertificateCodes.{replace-told}
+use Rattle.certificates.proofs.{CertificateCodes.replace-told, decisions.replace.Statement.statement}
 use borrow.Author.Needs.{needs}
-use Rattle.certificates.proofs.decisions.replace.Statement.{statement}
 use Rattle.certificates.proofs.decisions.replace.Tie as tie
 
 abbrev start : tie.After-certificate-slot → tie.Start

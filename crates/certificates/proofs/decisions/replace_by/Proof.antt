@@ -1,19 +1,13 @@
 use Prim.Native.Nat.{ℕ}
-use mathlib.Core.Bool.{Bool}
-use mathlib.Core.List.{List}
-use mathlib.Core.Path.{_≡_, refl, sym, ap, _∙_}
+use mathlib.Core.{Bool.Bool, List.List, Path.{_≡_, refl, sym, ap, _∙_}}
 use lib.Dec.{eqb}
-use Rattle.records.specs.Phone.{Phone, decode, certificate-at}
-use Rattle.records.specs.declared.Certificate.{Certificate}
-use Rattle.rules.specs.Words.{Check, first, first-place}
-use Rattle.rules.specs.Codes.{has-id, certificate-named}
+use Rattle.records.specs.{Phone.{Phone, decode, certificate-at}, declared.Certificate.Certificate}
+use Rattle.rules.specs.{Words.{Check, first, first-place}, Codes.{has-id, certificate-named}}
 use Rattle.handling.specs.Plans.{certificate-rows}
 use Rattle.handling.proofs.Decided.{refused-first, refused-next, on-next}
-use Rattle.certificates.specs.Decisions.{certificate-plan}
-use Rattle.certificates.specs.MarkingRows.{replacing-rows}
-use Rattle.certificates.proofs.NamedCertificate.{allowed-within, then-present, row-present, row-named}
+use Rattle.certificates.specs.{Decisions.certificate-plan, MarkingRows.replacing-rows}
+use Rattle.certificates.proofs.{NamedCertificate.{allowed-within, then-present, row-present, row-named}, decisions.replace_by.Statement.statement}
 use borrow.Author.Needs.{needs}
-use Rattle.certificates.proofs.decisions.replace_by.Statement.{statement}
 use Rattle.certificates.proofs.decisions.replace_by.Tie as tie
 
 abbrev start : tie.After-allowed-on → tie.Start

@@ -1,6 +1,5 @@
 use mathlib.Core.Path.{sym, _∙_}
-use borrow.Author.Tests.{eq-eqb, ne-eqb}
-use borrow.Author.Needs.{needs}
+use borrow.{Author.Tests.{eq-eqb, ne-eqb}, Author.Needs.needs}
 use Rattle.rules.specs.Effects.{enabled-by}
 use Rattle.certificates.proofs.effects.enabled_by.Statement.{statement}
 use Rattle.certificates.proofs.effects.enabled_by.Tie as tie

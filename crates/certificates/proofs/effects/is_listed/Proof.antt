@@ -1,13 +1,9 @@
 use Prim.Native.Nat.{_≤_, _-_}
 use mathlib.Core.Path.{_≡_, refl, sym, _∙_}
 use native.Mathlib.Omega.{arith}
-use lib.ListN.{length, drop}
-use lib.Seq.{length-take-le, getD-take}
-use lib.Dec.{eqb}
-use borrow.Author.Needs.{needs}
-use borrow.Author.Tests.{eq-eqb, ne-eqb}
-use Rattle.rules.specs.Words.{any}
-use Rattle.rules.specs.Forms.{eight, listed}
+use lib.{ListN.{length, drop}, Seq.{length-take-le, getD-take}, Dec.eqb}
+use borrow.{Author.Needs.needs, Author.Tests.{eq-eqb, ne-eqb}}
+use Rattle.rules.specs.{Words.any, Forms.{eight, listed}}
 use Rattle.laws.proofs.Loops.{any-stops, any-goes-on, any-fails}
 use Rattle.certificates.proofs.effects.is_listed.Statement.{statement}
 use Rattle.certificates.proofs.effects.is_listed.Tie as tie

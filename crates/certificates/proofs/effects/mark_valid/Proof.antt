@@ -1,9 +1,7 @@
-use mathlib.Core.Bool.{true}
-use mathlib.Core.Path.{sym, _∙_}
+use mathlib.Core.{Bool.true, Path.{sym, _∙_}}
 use Rattle.handling.specs.Retiring.{retire}
-use Rattle.certificates.proofs.Marking.{mapped-framed, marks-alone, marks-after-retiring}
+use Rattle.certificates.proofs.{Marking.{mapped-framed, marks-alone, marks-after-retiring}, effects.mark_valid.Statement.statement}
 use borrow.Author.Needs.{needs}
-use Rattle.certificates.proofs.effects.mark_valid.Statement.{statement}
 use Rattle.certificates.proofs.effects.mark_valid.Tie as tie
 
 abbrev start : tie.After-on-a-card → tie.Start

@@ -1,19 +1,14 @@
 use Prim.Native.Nat.{_-_}
-use mathlib.Core.Bool.{_||_}
-use mathlib.Core.Path.{_≡_, refl, sym, ap, _∙_}
+use mathlib.Core.{Bool._||_, Path.{_≡_, refl, sym, ap, _∙_}}
 use native.Mathlib.Omega.{arith}
 use lib.ListN.{drop}
-use borrow.Author.Tests.{not-true, not-false}
-use borrow.Author.Needs.{needs}
+use borrow.{Author.Tests.{not-true, not-false}, Author.Needs.needs}
 use Rattle.records.specs.Phone.{decode, encode, no-certificate, with-mode, enabling}
-use Rattle.rules.specs.Words.{any, at}
-use Rattle.rules.specs.ImageRules.{third-party-root}
-use Rattle.rules.specs.Effects.{enabled-by, message}
+use Rattle.rules.specs.{Words.{any, at}, ImageRules.third-party-root, Effects.{enabled-by, message}}
 use Rattle.chain.specs.Breaks.{disables}
 use Rattle.laws.proofs.Tables.{certificates}
 use Rattle.laws.proofs.SlotSweeps.{Sweeping, sweep-starts, sweep-goes-on, sweep-here, sweep-skips, sweep-said, gathers, gathers-none, gathered}
-use Rattle.certificates.proofs.Enables.{enabled-written, enabled-skipped, disables-told, disables-none}
-use Rattle.certificates.proofs.effects.message.Statement.{statement}
+use Rattle.certificates.proofs.{Enables.{enabled-written, enabled-skipped, disables-told, disables-none}, effects.message.Statement.statement}
 use Rattle.certificates.proofs.effects.message.Tie as tie
 
 abbrev Inv-loop : tie.InvT-loop

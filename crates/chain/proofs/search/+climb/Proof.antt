@@ -1,17 +1,13 @@
 use Prim.Native.Nat.{ℕ, _<_}
 use mathlib.Core.Path.{_∙_}
 use native.Mathlib.Omega.{arith}
-use borrow.Author.Needs.{needs}
-use Rattle.chain.proofs.Levels.{level-fits, least-none, climb-found, climb-small, climb-on}
-use borrow.Fn.Kinds.{In}
-use borrow.Fn.PlainCycle.{Measures, is, falls, and}
+use borrow.{Author.Needs.needs, Fn.Kinds.In, Fn.PlainCycle.{Measures, is, falls, and}}
+use Rattle.chain.proofs.{Levels.{level-fits, least-none, climb-found, climb-small, climb-on}, search.+climb.statement, search.+climb.Tie.close}
 use Rattle.chain.proofs.search.climb.Reads as climb
 use Rattle.chain.proofs.search.climb.Kinds as climb-kinds
 use Rattle.chain.proofs.search.+climb.Lts-climb as climb-lts
 use Rattle.chain.proofs.search.one_more.Reads as one-more-reads
 use Rattle.chain.proofs.search.up.Reads as up-reads
-use Rattle.chain.proofs.search.+climb.{statement}
-use Rattle.chain.proofs.search.+climb.Tie.{close}
 
 abbrev μ-climb : Measures 1 climb-kinds.ps ℕ
 μ-climb κs a = a .1 .1 .1 .0

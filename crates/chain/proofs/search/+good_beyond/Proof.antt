@@ -1,16 +1,12 @@
 use native.Mathlib.Omega.{arith}
-use borrow.Author.Needs.{needs}
+use borrow.{Author.Needs.needs, Fn.Kinds.In, Fn.PlainCycle.{Measures, is, falls, and}}
 use lib.Bits.{xor-lt}
-use Rattle.chain.proofs.Rounds.{found-lt, round-next, rounds-over, rounds-go-on}
+use Rattle.chain.proofs.{Rounds.{found-lt, round-next, rounds-over, rounds-go-on}, search.+good_beyond.statement, search.+good_beyond.Tie.close}
 use Prim.Native.Nat.{ℕ, _<_}
-use borrow.Fn.Kinds.{In}
-use borrow.Fn.PlainCycle.{Measures, is, falls, and}
 use Rattle.chain.proofs.search.good_beyond.Reads as good-beyond
 use Rattle.chain.proofs.search.good_beyond.Kinds as good-beyond-kinds
 use Rattle.chain.proofs.search.+good_beyond.Lts-good_beyond as good-beyond-lts
 use Rattle.chain.proofs.search.verified.Reads as verified-reads
-use Rattle.chain.proofs.search.+good_beyond.{statement}
-use Rattle.chain.proofs.search.+good_beyond.Tie.{close}
 
 abbrev μ-good-beyond : Measures 1 good-beyond-kinds.ps ℕ
 μ-good-beyond κs a = a .1 .1 .1 .1 .1 .0

@@ -1,6 +1,5 @@
-use Rattle.chain.proofs.Rounds.{within-lt, round-none, round-one, rounds-all}
+use Rattle.chain.proofs.{Rounds.{within-lt, round-none, round-one, rounds-all}, search.good_within.Statement.statement}
 use borrow.Author.Needs.{needs}
-use Rattle.chain.proofs.search.good_within.Statement.{statement}
 use Rattle.chain.proofs.search.good_within.Tie as tie
 
 returns : tie.Need-returns

@@ -1,13 +1,11 @@
 use mathlib.Core.Path.{_≡_, refl}
 use native.Mathlib.Omega.{arith}
-use borrow.Author.Needs.{needs}
-use borrow.Author.Tests.{eq-eqb, ne-eqb}
+use borrow.{Author.Needs.needs, Author.Tests.{eq-eqb, ne-eqb}}
 use lib.Dec.{eqb}
 use Rattle.records.specs.Phone.{decode}
 use Rattle.bits.specs.SlotWord.{any-of}
 use Rattle.bits.proofs.WordLaws.{any-left-none}
-use Rattle.chain.proofs.WordsAny.{Going, at-slot, falls-to, goes-to, some-stops, some-goes-on}
-use Rattle.chain.proofs.search.holds_key.Statement.{statement}
+use Rattle.chain.proofs.{WordsAny.{Going, at-slot, falls-to, goes-to, some-stops, some-goes-on}, search.holds_key.Statement.statement}
 use Rattle.chain.proofs.search.holds_key.Tie as tie
 
 abbrev Inv-loop : tie.InvT-loop

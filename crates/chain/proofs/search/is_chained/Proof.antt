@@ -1,6 +1,5 @@
 use borrow.Author.Needs.{needs}
-use Rattle.chain.proofs.Rounds.{within-lt, chained-other, chained-by}
-use Rattle.chain.proofs.search.is_chained.Statement.{statement}
+use Rattle.chain.proofs.{Rounds.{within-lt, chained-other, chained-by}, search.is_chained.Statement.statement}
 use Rattle.chain.proofs.search.is_chained.Tie as tie
 
 holds-key-requires : tie.Need-holds-key-requires

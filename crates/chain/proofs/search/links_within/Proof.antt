@@ -1,8 +1,7 @@
 use mathlib.Core.Path.{_∙_}
 use native.Mathlib.Omega.{arith}
-use Rattle.chain.proofs.Levels.{level-fits, least-none, climb-found, climb-small, climb-on}
+use Rattle.chain.proofs.{Levels.{level-fits, least-none, climb-found, climb-small, climb-on}, search.links_within.Statement.statement}
 use borrow.Author.Needs.{needs}
-use Rattle.chain.proofs.search.links_within.Statement.{statement}
 use Rattle.chain.proofs.search.links_within.Tie as tie
 
 returns : tie.Need-returns

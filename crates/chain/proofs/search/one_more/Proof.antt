@@ -1,5 +1,4 @@
-use borrow.Author.Needs.{needs}
-use borrow.Author.Tests.{eq-eqb, ne-eqb}
+use borrow.{Author.Needs.needs, Author.Tests.{eq-eqb, ne-eqb}}
 use native.Mathlib.Numerals.{add-one}
 use Rattle.chain.proofs.search.one_more.Statement.{statement}
 use Rattle.chain.proofs.search.one_more.Tie as tie

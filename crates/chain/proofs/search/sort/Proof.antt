@@ -1,12 +1,10 @@
 use Prim.Native.Nat.{_-_, _≤_}
 use mathlib.Core.Path.{_≡_}
 use native.Mathlib.Omega.{arith}
-use borrow.Author.Needs.{needs}
-use borrow.Author.Tests.{not-true, not-false}
+use borrow.{Author.Needs.needs, Author.Tests.{not-true, not-false}}
 use lib.ListN.{length}
 use Rattle.records.specs.Phone.{decode}
-use Rattle.chain.proofs.Sorting.{Sorting, sort-begin, sort-end, sort-other, sort-root, sort-unlinked, sort-link}
-use Rattle.chain.proofs.search.sort.Statement.{statement}
+use Rattle.chain.proofs.{Sorting.{Sorting, sort-begin, sort-end, sort-other, sort-root, sort-unlinked, sort-link}, search.sort.Statement.statement}
 use Rattle.chain.proofs.search.sort.Tie as tie
 
 abbrev Inv-loop : tie.InvT-loop

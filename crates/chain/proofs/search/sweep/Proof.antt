@@ -1,8 +1,7 @@
 use Prim.Native.Nat.{_-_, _≤_}
 use mathlib.Core.Path.{_≡_}
 use native.Mathlib.Omega.{arith}
-use borrow.Author.Needs.{needs}
-use borrow.Author.Tests.{not-true, not-false}
+use borrow.{Author.Needs.needs, Author.Tests.{not-true, not-false}}
 use lib.ListN.{length}
 use Rattle.records.specs.Phone.{decode}
 use Rattle.chain.proofs.Levels.{Sweeping, sweep-begin, sweep-end, sweep-other, sweep-root, sweep-unlinked, sweep-link}

@@ -2,8 +2,7 @@ use mathlib.Core.Path.{sym, _∙_}
 use native.Mathlib.Omega.{arith}
 use borrow.Author.Needs.{needs}
 use Rattle.records.specs.Phone.{decode}
-use Rattle.chain.proofs.WordsAny.{at-slot, falls-to}
-use Rattle.chain.proofs.Levels.{Raising, up-begin, up-fits, up-end, up-known, up-found, up-more}
+use Rattle.chain.proofs.{WordsAny.{at-slot, falls-to}, Levels.{Raising, up-begin, up-fits, up-end, up-known, up-found, up-more}}
 use Rattle.chain.proofs.search.up.Statement.{statement}
 use Rattle.chain.proofs.search.up.Tie as tie
 

@@ -1,15 +1,12 @@
 use Prim.Native.Nat.{_+_}
 use mathlib.Core.Path.{_≡_, sym, _∙_}
-use native.Mathlib.Nat.{zero-add}
-use native.Mathlib.Omega.{arith}
-use borrow.Author.Needs.{needs}
-use borrow.Author.Tests.{not-true, not-false}
+use native.{Mathlib.Nat.zero-add, Mathlib.Omega.arith}
+use borrow.{Author.Needs.needs, Author.Tests.{not-true, not-false}}
 use Rattle.records.specs.Phone.{decode}
 use Rattle.bits.specs.SlotWord.{keep}
 use Rattle.bits.proofs.WordLaws.{falls, keep-left-none}
 use Rattle.chain.specs.SlotWords.{verified-by}
-use Rattle.chain.proofs.WordsAny.{Going, at-slot, falls-to, goes-to, found-skips, found-takes}
-use Rattle.chain.proofs.Rounds.{verified-nothing, found-fits}
+use Rattle.chain.proofs.{WordsAny.{Going, at-slot, falls-to, goes-to, found-skips, found-takes}, Rounds.{verified-nothing, found-fits}}
 use Rattle.chain.proofs.search.verified.Statement.{statement}
 use Rattle.chain.proofs.search.verified.Tie as tie
 

@@ -2,9 +2,8 @@ use mathlib.Core.Path.{_≡_}
 use Rattle.records.specs.Phone.{decode}
 use Rattle.rules.specs.Forms.{clock-form}
 use Rattle.handling.proofs.CodeRows.{none, here, next, says, says-below, says-not-below}
-use Rattle.device.proofs.DeviceCodes.{clock-told}
+use Rattle.device.proofs.{DeviceCodes.clock-told, decisions.clock.Statement.statement}
 use borrow.Author.Needs.{needs}
-use Rattle.device.proofs.decisions.clock.Statement.{statement}
 use Rattle.device.proofs.decisions.clock.Tie as tie
 
 -- the test of the form is that of 01

@@ -2,9 +2,8 @@ use mathlib.Core.Path.{_≡_}
 use Rattle.records.specs.Phone.{decode}
 use Rattle.rules.specs.Forms.{card-form}
 use Rattle.handling.proofs.CodeRows.{none, here, next, says}
-use Rattle.device.proofs.DeviceCodes.{power-up-told}
+use Rattle.device.proofs.{DeviceCodes.power-up-told, decisions.power_up.Statement.statement}
 use borrow.Author.Needs.{needs}
-use Rattle.device.proofs.decisions.power_up.Statement.{statement}
 use Rattle.device.proofs.decisions.power_up.Tie as tie
 
 -- the test of the form is that of 01

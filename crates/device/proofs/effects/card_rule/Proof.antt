@@ -1,9 +1,7 @@
-use mathlib.Core.Path.{ap, ap₂, _∙_}
-use mathlib.Core.List.{map}
+use mathlib.Core.{Path.{ap, ap₂, _∙_}, List.map}
 use borrow.Author.Needs.{needs}
 use Rattle.records.specs.Phone.{decode, encode, with-certificates}
-use Rattle.rules.specs.ImageRules.{has-valid-operator, operator-of}
-use Rattle.rules.specs.Effects.{card-rule, retired}
+use Rattle.rules.specs.{ImageRules.{has-valid-operator, operator-of}, Effects.{card-rule, retired}}
 use Rattle.handling.specs.Retiring.{outgoing, retire}
 use Rattle.device.proofs.effects.card_rule.Statement.{statement}
 use Rattle.device.proofs.effects.card_rule.Tie as tie

@@ -1,5 +1,4 @@
-use borrow.Author.Tests.{eq-eqb, ne-eqb}
-use borrow.Author.Needs.{needs}
+use borrow.{Author.Tests.{eq-eqb, ne-eqb}, Author.Needs.needs}
 use Rattle.rules.specs.Effects.{power-up}
 use Rattle.device.proofs.effects.power_up.Statement.{statement}
 use Rattle.device.proofs.effects.power_up.Tie as tie

@@ -1,8 +1,7 @@
 use native.Mathlib.Omega.{arith}
-use Rattle.executables.proofs.ExecutableCodes.{delete-executable-told}
+use Rattle.executables.proofs.{ExecutableCodes.delete-executable-told, decisions.delete_executable.Statement.statement}
 use Rattle.handling.proofs.Decided.{unformed, formed}
 use borrow.Author.Needs.{needs}
-use Rattle.executables.proofs.decisions.delete_executable.Statement.{statement}
 use Rattle.executables.proofs.decisions.delete_executable.Tie as tie
 
 returns : tie.Need-returns

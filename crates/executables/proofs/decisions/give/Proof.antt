@@ -1,12 +1,10 @@
-use mathlib.Core.Bool.{true}
-use mathlib.Core.Path.{_≡_}
+use mathlib.Core.{Bool.true, Path._≡_}
 use native.Mathlib.Omega.{arith}
 use Rattle.records.specs.Phone.{decode}
 use Rattle.rules.specs.Forms.{action-form}
-use Rattle.executables.proofs.ExecutableCodes.{permit-told}
+use Rattle.executables.proofs.{ExecutableCodes.permit-told, decisions.give.Statement.statement}
 use Rattle.handling.proofs.Decided.{unformed, formed}
 use borrow.Author.Needs.{needs}
-use Rattle.executables.proofs.decisions.give.Statement.{statement}
 use Rattle.executables.proofs.decisions.give.Tie as tie
 
 abbrev start : tie.After-action-form → tie.Start

@@ -1,15 +1,12 @@
 use mathlib.Core.Path.{_≡_, sym, _∙_}
 use native.Mathlib.Omega.{arith}
 use Rattle.records.specs.Phone.{decode}
-use Rattle.rules.specs.Forms.{with-kind, executable-form}
-use Rattle.rules.specs.Codes.{executable-known, code-of}
+use Rattle.rules.specs.{Forms.{with-kind, executable-form}, Codes.{executable-known, code-of}}
 use Rattle.lookup.specs.declared.Room.{Room}
-use Rattle.handling.proofs.CodeRows.{here, next, rest, says}
-use Rattle.handling.proofs.PlanLaws.{plan-refused, plan-on}
-use Rattle.executables.proofs.ExecutableCodes.{install-executable-told}
-use Rattle.executables.proofs.ExecutableRooms.{executable-code, executable-told, executable-filled}
-use borrow.Author.Needs.{needs}
+use Rattle.handling.proofs.{CodeRows.{here, next, rest, says}, PlanLaws.{plan-refused, plan-on}}
+use Rattle.executables.proofs.{ExecutableCodes.install-executable-told, ExecutableRooms.{executable-code, executable-told, executable-filled}}
 use Rattle.executables.proofs.decisions.install_executable.Statement.{statement}
+use borrow.Author.Needs.{needs}
 use Rattle.executables.proofs.decisions.install_executable.Tie as tie
 
 -- the test of the form is that of 01

@@ -1,11 +1,8 @@
-use mathlib.Core.Bool.{not}
-use mathlib.Core.Path.{ap}
+use mathlib.Core.{Bool.not, Path.ap}
 use native.Mathlib.Omega.{arith}
 use Rattle.rules.specs.Codes.{is-executable}
 use Rattle.lookup.proofs.FoundSlot.{at-first}
-use Rattle.handling.proofs.CodeRows.{none, here, next, gives, says}
-use Rattle.handling.proofs.PlanLaws.{plan-refused, plan-on}
-use Rattle.handling.proofs.Named.{executable-missing, executable-found}
+use Rattle.handling.proofs.{CodeRows.{none, here, next, gives, says}, PlanLaws.{plan-refused, plan-on}, Named.{executable-missing, executable-found}}
 use borrow.Author.Needs.{needs}
 use Rattle.executables.proofs.decisions.on_executable.Statement.{statement}
 use Rattle.executables.proofs.decisions.on_executable.Tie as tie

@@ -1,17 +1,11 @@
 use mathlib.Core.Path.{_≡_, refl, sym, ap, _∙_}
 use native.Mathlib.Omega.{arith}
 use Rattle.records.specs.Phone.{decode}
-use Rattle.rules.specs.Forms.{action-form}
-use Rattle.rules.specs.Codes.{executable-named}
+use Rattle.rules.specs.{Forms.action-form, Codes.executable-named}
 use Rattle.terms.proofs.FormTests.{action-below}
-use Rattle.handling.proofs.CodeRows.{says}
-use Rattle.handling.proofs.PlanLaws.{on-slot}
-use Rattle.handling.proofs.Named.{executable-here}
-use Rattle.executables.proofs.ExecutableCodes.{request-told}
-use Rattle.executables.proofs.ActsOnExecutable.{known-within}
-use Rattle.handling.proofs.Decided.{unformed, formed, refused-first, refused-next, on-next}
+use Rattle.handling.proofs.{CodeRows.says, PlanLaws.on-slot, Named.executable-here, Decided.{unformed, formed, refused-first, refused-next, on-next}}
+use Rattle.executables.proofs.{ExecutableCodes.request-told, ActsOnExecutable.known-within, decisions.request.Statement.statement}
 use borrow.Author.Needs.{needs}
-use Rattle.executables.proofs.decisions.request.Statement.{statement}
 use Rattle.executables.proofs.decisions.request.Tie as tie
 
 abbrev start : tie.After-action-form → tie.Start

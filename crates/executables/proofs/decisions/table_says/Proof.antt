@@ -1,13 +1,10 @@
 use Prim.Native.Nat.{ℕ}
-use mathlib.Core.Bool.{true, false, not, _&&_}
-use mathlib.Core.Path.{_≡_, sym, ap₂, _∙_}
-use borrow.Author.Tests.{eq-eqb, ne-eqb}
+use mathlib.Core.{Bool.{true, false, not, _&&_}, Path.{_≡_, sym, ap₂, _∙_}}
+use borrow.{Author.Tests.{eq-eqb, ne-eqb}, Author.Needs.needs}
 use lib.Dec.{eqb}
 use Rattle.bits.specs.Bits.{has-bit}
-use Rattle.records.specs.Layout.{row-byte}
-use Rattle.records.specs.Phone.{decode, row-at}
+use Rattle.records.specs.{Layout.row-byte, Phone.{decode, row-at}}
 use Rattle.handling.proofs.CodeRows.{none, here, next, gives}
-use borrow.Author.Needs.{needs}
 use Rattle.executables.proofs.decisions.table_says.Statement.{statement}
 use Rattle.executables.proofs.decisions.table_says.Tie as tie
 

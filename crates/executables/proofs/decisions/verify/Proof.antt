@@ -1,8 +1,7 @@
 use native.Mathlib.Omega.{arith}
-use Rattle.executables.proofs.ExecutableCodes.{verify-told}
+use Rattle.executables.proofs.{ExecutableCodes.verify-told, decisions.verify.Statement.statement}
 use Rattle.handling.proofs.Decided.{unformed, formed}
 use borrow.Author.Needs.{needs}
-use Rattle.executables.proofs.decisions.verify.Statement.{statement}
 use Rattle.executables.proofs.decisions.verify.Tie as tie
 
 returns : tie.Need-returns

@@ -1,7 +1,6 @@
 use borrow.Author.Needs.{needs}
 use Rattle.bits.specs.Bits.{set-bit}
-use Rattle.executables.proofs.ExecutableWrites.{permissions-written}
-use Rattle.executables.proofs.effects.give.Statement.{statement}
+use Rattle.executables.proofs.{ExecutableWrites.permissions-written, effects.give.Statement.statement}
 use Rattle.executables.proofs.effects.give.Tie as tie
 
 abbrev start : tie.After-set-bit → tie.Start

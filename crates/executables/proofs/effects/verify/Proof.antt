@@ -2,8 +2,7 @@ use mathlib.Core.Path.{ap, _∙_}
 use borrow.Author.Needs.{needs}
 use Rattle.rules.specs.Chains.{chain-of}
 use Rattle.records.specs.Phone.{decode}
-use Rattle.executables.proofs.ExecutableWrites.{domain-written}
-use Rattle.executables.proofs.effects.verify.Statement.{statement}
+use Rattle.executables.proofs.{ExecutableWrites.domain-written, effects.verify.Statement.statement}
 use Rattle.executables.proofs.effects.verify.Tie as tie
 
 abbrev start : tie.After-chain-of → tie.Start

@@ -1,7 +1,6 @@
 use borrow.Author.Needs.{needs}
 use Rattle.bits.specs.Bits.{clear-bit}
-use Rattle.executables.proofs.ExecutableWrites.{permissions-written}
-use Rattle.executables.proofs.effects.withdraw.Statement.{statement}
+use Rattle.executables.proofs.{ExecutableWrites.permissions-written, effects.withdraw.Statement.statement}
 use Rattle.executables.proofs.effects.withdraw.Tie as tie
 
 abbrev start : tie.After-clear-bit → tie.Start

@@ -1,6 +1,5 @@
-use Rattle.opening.proofs.ByParts.{card-owned, not-asked}
+use Rattle.opening.proofs.{ByParts.{card-owned, not-asked}, sweeps.card_owns.Statement.statement}
 use borrow.Author.Needs.{needs}
-use Rattle.opening.proofs.sweeps.card_owns.Statement.{statement}
 use Rattle.opening.proofs.sweeps.card_owns.Tie as tie
 
 returns : tie.Need-returns

@@ -2,12 +2,10 @@ use borrow.Author.Needs.{needs}
 use native.Mathlib.Omega.{arith}
 use Prim.Native.Nat.{_≤_, _-_}
 use lib.ListN.{length, take}
-use mathlib.Core.Bool.{true}
-use mathlib.Core.Path.{_≡_, refl}
+use mathlib.Core.{Bool.true, Path.{_≡_, refl}}
 use Rattle.records.specs.Phone.{decode, no-card}
 use Rattle.rules.specs.ImageRules.{cards-fit}
-use Rattle.laws.proofs.Lowest.{breaks-here, keeps-on, breaks-nowhere}
-use Rattle.laws.proofs.RulesGrow.{cards-grow}
+use Rattle.laws.proofs.{Lowest.{breaks-here, keeps-on, breaks-nowhere}, RulesGrow.cards-grow}
 use Rattle.opening.proofs.sweeps.cards.Statement.{statement}
 use Rattle.opening.proofs.sweeps.cards.Tie as tie
 

@@ -2,13 +2,10 @@ use borrow.Author.Needs.{needs}
 use native.Mathlib.Omega.{arith}
 use Prim.Native.Nat.{_≤_, _-_}
 use lib.ListN.{length, take}
-use mathlib.Core.Bool.{true}
-use mathlib.Core.Path.{_≡_, refl}
+use mathlib.Core.{Bool.true, Path.{_≡_, refl}}
 use Rattle.records.specs.Phone.{decode, no-certificate}
-use Rattle.rules.specs.ImageRules.{i4}
-use Rattle.rules.specs.Faults.{of-certificates}
-use Rattle.laws.proofs.Lowest.{breaks-here, keeps-on, breaks-nowhere}
-use Rattle.laws.proofs.RulesGrow.{i4-grows}
+use Rattle.rules.specs.{ImageRules.i4, Faults.of-certificates}
+use Rattle.laws.proofs.{Lowest.{breaks-here, keeps-on, breaks-nowhere}, RulesGrow.i4-grows}
 use Rattle.opening.proofs.sweeps.i4.Statement.{statement}
 use Rattle.opening.proofs.sweeps.i4.Tie as tie
 

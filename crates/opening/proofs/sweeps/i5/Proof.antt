@@ -2,13 +2,10 @@ use borrow.Author.Needs.{needs}
 use native.Mathlib.Omega.{arith}
 use Prim.Native.Nat.{_≤_, _-_}
 use lib.ListN.{length, take}
-use mathlib.Core.Bool.{true}
-use mathlib.Core.Path.{_≡_, refl}
+use mathlib.Core.{Bool.true, Path.{_≡_, refl}}
 use Rattle.records.specs.Phone.{decode, no-certificate}
-use Rattle.rules.specs.ImageRules.{i5}
-use Rattle.rules.specs.Faults.{of-certificates}
-use Rattle.laws.proofs.Lowest.{breaks-here, keeps-on, breaks-nowhere}
-use Rattle.laws.proofs.RulesGrow.{i5-grows}
+use Rattle.rules.specs.{ImageRules.i5, Faults.of-certificates}
+use Rattle.laws.proofs.{Lowest.{breaks-here, keeps-on, breaks-nowhere}, RulesGrow.i5-grows}
 use Rattle.opening.proofs.sweeps.i5.Statement.{statement}
 use Rattle.opening.proofs.sweeps.i5.Tie as tie
 

@@ -1,6 +1,5 @@
-use Rattle.opening.proofs.ByParts.{i5-spared}
+use Rattle.opening.proofs.{ByParts.i5-spared, sweeps.i5_with.Statement.statement}
 use borrow.Author.Needs.{needs}
-use Rattle.opening.proofs.sweeps.i5_with.Statement.{statement}
 use Rattle.opening.proofs.sweeps.i5_with.Tie as tie
 
 returns-2 : tie.Need-returns-2

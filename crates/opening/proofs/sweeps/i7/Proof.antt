@@ -2,13 +2,10 @@ use borrow.Author.Needs.{needs}
 use native.Mathlib.Omega.{arith}
 use Prim.Native.Nat.{_≤_, _-_}
 use lib.ListN.{length, take}
-use mathlib.Core.Bool.{true}
-use mathlib.Core.Path.{_≡_, refl}
+use mathlib.Core.{Bool.true, Path.{_≡_, refl}}
 use Rattle.records.specs.Phone.{decode, no-executable}
-use Rattle.rules.specs.ImageRules.{i7}
-use Rattle.rules.specs.Faults.{of-executables}
-use Rattle.laws.proofs.Lowest.{breaks-here, keeps-on, breaks-nowhere}
-use Rattle.laws.proofs.RulesGrow.{i7-grows}
+use Rattle.rules.specs.{ImageRules.i7, Faults.of-executables}
+use Rattle.laws.proofs.{Lowest.{breaks-here, keeps-on, breaks-nowhere}, RulesGrow.i7-grows}
 use Rattle.opening.proofs.sweeps.i7.Statement.{statement}
 use Rattle.opening.proofs.sweeps.i7.Tie as tie
 

@@ -1,5 +1,4 @@
-use Rattle.rules.specs.ImageRules.{not-both}
-use Rattle.rules.specs.Words.{_implies_}
+use Rattle.rules.specs.{ImageRules.not-both, Words._implies_}
 use borrow.Author.Needs.{needs}
 use Rattle.opening.proofs.sweeps.not_both.Statement.{statement}
 use Rattle.opening.proofs.sweeps.not_both.Tie as tie

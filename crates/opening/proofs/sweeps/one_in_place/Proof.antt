@@ -1,5 +1,4 @@
-use Rattle.rules.specs.ImageRules.{one-in-place}
-use Rattle.rules.specs.Words.{_implies_}
+use Rattle.rules.specs.{ImageRules.one-in-place, Words._implies_}
 use borrow.Author.Needs.{needs}
 use Rattle.opening.proofs.sweeps.one_in_place.Statement.{statement}
 use Rattle.opening.proofs.sweeps.one_in_place.Tie as tie

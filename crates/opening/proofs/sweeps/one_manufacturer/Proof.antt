@@ -1,5 +1,4 @@
-use Rattle.rules.specs.ImageRules.{one-manufacturer}
-use Rattle.rules.specs.Words.{_implies_}
+use Rattle.rules.specs.{ImageRules.one-manufacturer, Words._implies_}
 use borrow.Author.Needs.{needs}
 use Rattle.opening.proofs.sweeps.one_manufacturer.Statement.{statement}
 use Rattle.opening.proofs.sweeps.one_manufacturer.Tie as tie

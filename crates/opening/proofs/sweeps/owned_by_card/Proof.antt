@@ -1,7 +1,6 @@
-use Rattle.opening.proofs.ByParts.{implied, spared}
+use Rattle.opening.proofs.{ByParts.{implied, spared}, sweeps.owned_by_card.Statement.statement}
 use Rattle.rules.specs.ImageRules.{owned-by-card}
 use borrow.Author.Needs.{needs}
-use Rattle.opening.proofs.sweeps.owned_by_card.Statement.{statement}
 use Rattle.opening.proofs.sweeps.owned_by_card.Tie as tie
 
 returns : tie.Need-returns

@@ -1,6 +1,5 @@
-use borrow.Author.Needs.{needs}
+use borrow.{Author.Needs.needs, Author.Tests.{eq-eqb, ne-eqb}}
 use native.Mathlib.Omega.{arith}
-use borrow.Author.Tests.{eq-eqb, ne-eqb}
 use Prim.Native.Nat.{_≤_, _-_}
 use mathlib.Core.Path.{_≡_, refl}
 use lib.ListN.{length, drop}

@@ -5,8 +5,7 @@ use mathlib.Core.Path.{_≡_, ap, _∙_}
 use lib.ListN.{length, drop}
 use Rattle.records.specs.Phone.{decode, no-certificate}
 use Rattle.explanations.specs.Why.{has-key, lowest}
-use Rattle.reasons.proofs.Sweeps.{lowest-end, lowest-back, lowest-done}
-use Rattle.reasons.proofs.slots.lowest_holder.Statement.{statement}
+use Rattle.reasons.proofs.{Sweeps.{lowest-end, lowest-back, lowest-done}, slots.lowest_holder.Statement.statement}
 use Rattle.reasons.proofs.slots.lowest_holder.Tie as tie
 
 abbrev Inv-loop : tie.InvT-loop

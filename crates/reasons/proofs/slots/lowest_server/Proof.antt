@@ -6,8 +6,7 @@ use lib.ListN.{length, drop}
 use Rattle.records.specs.Phone.{decode, no-certificate}
 use Rattle.rules.specs.Chains.{serves, good}
 use Rattle.explanations.specs.Why.{lowest}
-use Rattle.reasons.proofs.Sweeps.{lowest-end, lowest-back, lowest-done}
-use Rattle.reasons.proofs.slots.lowest_server.Statement.{statement}
+use Rattle.reasons.proofs.{Sweeps.{lowest-end, lowest-back, lowest-done}, slots.lowest_server.Statement.statement}
 use Rattle.reasons.proofs.slots.lowest_server.Tie as tie
 
 abbrev Inv-loop : tie.InvT-loop

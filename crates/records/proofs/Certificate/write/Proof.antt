@@ -1,7 +1,6 @@
 use native.Mathlib.Omega.{arith}
-use Rattle.records.proofs.Puts.{put-next}
+use Rattle.records.proofs.{Puts.put-next, Certificate.write.Statement.statement}
 use borrow.Author.Needs.{needs}
-use Rattle.records.proofs.Certificate.write.Statement.{statement}
 use Rattle.records.proofs.Certificate.write.Tie as tie
 
 returns : tie.Need-returns

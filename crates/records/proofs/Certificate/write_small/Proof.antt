@@ -1,7 +1,6 @@
 use native.Mathlib.Omega.{arith}
-use Rattle.records.proofs.Puts.{done, more, written}
+use Rattle.records.proofs.{Puts.{done, more, written}, Certificate.write_small.Statement.statement}
 use borrow.Author.Needs.{needs}
-use Rattle.records.proofs.Certificate.write_small.Statement.{statement}
 use Rattle.records.proofs.Certificate.write_small.Tie as tie
 
 returns : tie.Need-returns

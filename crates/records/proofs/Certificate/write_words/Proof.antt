@@ -1,7 +1,6 @@
 use native.Mathlib.Omega.{arith}
-use Rattle.records.proofs.Puts.{done, more, written-from}
+use Rattle.records.proofs.{Puts.{done, more, written-from}, Certificate.write_words.Statement.statement}
 use borrow.Author.Needs.{needs}
-use Rattle.records.proofs.Certificate.write_words.Statement.{statement}
 use Rattle.records.proofs.Certificate.write_words.Tie as tie
 
 returns : tie.Need-returns

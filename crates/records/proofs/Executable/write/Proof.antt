@@ -1,6 +1,5 @@
-use Rattle.records.proofs.Puts.{done, more, written}
+use Rattle.records.proofs.{Puts.{done, more, written}, Executable.write.Statement.statement}
 use borrow.Author.Needs.{needs}
-use Rattle.records.proofs.Executable.write.Statement.{statement}
 use Rattle.records.proofs.Executable.write.Tie as tie
 
 returns : tie.Need-returns

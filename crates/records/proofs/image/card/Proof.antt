@@ -1,7 +1,6 @@
 use mathlib.Core.Path.{_∙_}
-use Rattle.records.proofs.Said.{card-said}
+use Rattle.records.proofs.{Said.card-said, image.card.Statement.statement}
 use borrow.Author.Needs.{needs}
-use Rattle.records.proofs.image.card.Statement.{statement}
 use Rattle.records.proofs.image.card.Tie as tie
 
 returns : tie.Need-returns

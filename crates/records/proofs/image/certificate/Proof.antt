@@ -1,7 +1,6 @@
 use mathlib.Core.Path.{_∙_}
-use Rattle.records.proofs.Said.{certificate-said}
+use Rattle.records.proofs.{Said.certificate-said, image.certificate.Statement.statement}
 use borrow.Author.Needs.{needs}
-use Rattle.records.proofs.image.certificate.Statement.{statement}
 use Rattle.records.proofs.image.certificate.Tie as tie
 
 returns : tie.Need-returns

@@ -1,8 +1,7 @@
 use mathlib.Core.Path.{ap, _∙_}
 use lib.Dec.{eqb}
-use Rattle.records.proofs.Said.{certificate-said}
+use Rattle.records.proofs.{Said.certificate-said, image.certificate_has_id.Statement.statement}
 use borrow.Author.Needs.{needs}
-use Rattle.records.proofs.image.certificate_has_id.Statement.{statement}
 use Rattle.records.proofs.image.certificate_has_id.Tie as tie
 
 returns : tie.Need-returns

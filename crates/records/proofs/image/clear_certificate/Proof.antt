@@ -1,7 +1,6 @@
 use mathlib.Core.Path.{_∙_}
-use Rattle.records.proofs.FramedWrites.{certificate-cleared}
+use Rattle.records.proofs.{FramedWrites.certificate-cleared, image.clear_certificate.Statement.statement}
 use borrow.Author.Needs.{needs}
-use Rattle.records.proofs.image.clear_certificate.Statement.{statement}
 use Rattle.records.proofs.image.clear_certificate.Tie as tie
 
 returns : tie.Need-returns

@@ -1,7 +1,6 @@
 use mathlib.Core.Path.{_∙_}
-use Rattle.records.proofs.FramedWrites.{executable-cleared}
+use Rattle.records.proofs.{FramedWrites.executable-cleared, image.clear_executable.Statement.statement}
 use borrow.Author.Needs.{needs}
-use Rattle.records.proofs.image.clear_executable.Statement.{statement}
 use Rattle.records.proofs.image.clear_executable.Tie as tie
 
 returns : tie.Need-returns

@@ -1,7 +1,6 @@
 use mathlib.Core.Path.{_∙_}
-use Rattle.records.proofs.Said.{executable-said}
+use Rattle.records.proofs.{Said.executable-said, image.executable.Statement.statement}
 use borrow.Author.Needs.{needs}
-use Rattle.records.proofs.image.executable.Statement.{statement}
 use Rattle.records.proofs.image.executable.Tie as tie
 
 returns : tie.Need-returns

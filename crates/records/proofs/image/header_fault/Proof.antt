@@ -1,8 +1,8 @@
 use Rattle.records.proofs.Wrong.{too-short, wrong-version, many-certificates, many-cards, many-executables, counts-right}
+use Rattle.records.proofs.image.header_fault.Statement.{statement}
 use mathlib.Core.Path.{sym, _∙_}
 use native.Mathlib.Omega.{arith}
 use borrow.Author.Needs.{needs}
-use Rattle.records.proofs.image.header_fault.Statement.{statement}
 use Rattle.records.proofs.image.header_fault.Tie as tie
 
 returns : tie.Need-returns

@@ -1,6 +1,5 @@
-use borrow.Author.Tests.{lt-leb, le-leb}
+use borrow.{Author.Tests.{lt-leb, le-leb}, Author.Needs.needs}
 use Rattle.records.specs.Frame.{framed}
-use borrow.Author.Needs.{needs}
 use Rattle.records.proofs.image.is_framed.Statement.{statement}
 use Rattle.records.proofs.image.is_framed.Tie as tie
 

@@ -1,7 +1,7 @@
 use Rattle.records.proofs.Wrong.{wrong-certificates-at, wrong-cards-at, wrong-executables-at, wrong-table-at, wrong-total}
+use Rattle.records.proofs.image.parts_fault.Statement.{statement}
 use native.Mathlib.Omega.{arith}
 use borrow.Author.Needs.{needs}
-use Rattle.records.proofs.image.parts_fault.Statement.{statement}
 use Rattle.records.proofs.image.parts_fault.Tie as tie
 
 returns : tie.Need-returns

@@ -1,7 +1,6 @@
 use mathlib.Core.Path.{_∙_}
-use Rattle.records.proofs.Said.{row-said}
+use Rattle.records.proofs.{Said.row-said, image.row.Statement.statement}
 use borrow.Author.Needs.{needs}
-use Rattle.records.proofs.image.row.Statement.{statement}
 use Rattle.records.proofs.image.row.Tie as tie
 
 returns : tie.Need-returns

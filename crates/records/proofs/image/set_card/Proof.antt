@@ -1,7 +1,6 @@
 use mathlib.Core.Path.{_∙_}
-use Rattle.records.proofs.FramedWrites.{card-written}
+use Rattle.records.proofs.{FramedWrites.card-written, image.set_card.Statement.statement}
 use borrow.Author.Needs.{needs}
-use Rattle.records.proofs.image.set_card.Statement.{statement}
 use Rattle.records.proofs.image.set_card.Tie as tie
 
 returns : tie.Need-returns

@@ -1,7 +1,6 @@
 use mathlib.Core.Path.{_∙_}
-use Rattle.records.proofs.FramedWrites.{clock-written}
+use Rattle.records.proofs.{FramedWrites.clock-written, image.set_clock.Statement.statement}
 use borrow.Author.Needs.{needs}
-use Rattle.records.proofs.image.set_clock.Statement.{statement}
 use Rattle.records.proofs.image.set_clock.Tie as tie
 
 returns : tie.Need-returns

@@ -1,7 +1,6 @@
 use mathlib.Core.Path.{_∙_}
-use Rattle.records.proofs.FramedWrites.{domain-written}
+use Rattle.records.proofs.{FramedWrites.domain-written, image.set_domain.Statement.statement}
 use borrow.Author.Needs.{needs}
-use Rattle.records.proofs.image.set_domain.Statement.{statement}
 use Rattle.records.proofs.image.set_domain.Tie as tie
 
 returns : tie.Need-returns

@@ -1,7 +1,6 @@
 use mathlib.Core.Path.{_∙_}
-use Rattle.records.proofs.FramedWrites.{enabled-written}
+use Rattle.records.proofs.{FramedWrites.enabled-written, image.set_enabled.Statement.statement}
 use borrow.Author.Needs.{needs}
-use Rattle.records.proofs.image.set_enabled.Statement.{statement}
 use Rattle.records.proofs.image.set_enabled.Tie as tie
 
 returns : tie.Need-returns

@@ -1,7 +1,6 @@
 use mathlib.Core.Path.{_∙_}
-use Rattle.records.proofs.FramedWrites.{mark-written}
+use Rattle.records.proofs.{FramedWrites.mark-written, image.set_mark.Statement.statement}
 use borrow.Author.Needs.{needs}
-use Rattle.records.proofs.image.set_mark.Statement.{statement}
 use Rattle.records.proofs.image.set_mark.Tie as tie
 
 returns : tie.Need-returns

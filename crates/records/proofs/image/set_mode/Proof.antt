@@ -1,7 +1,6 @@
 use mathlib.Core.Path.{_∙_}
-use Rattle.records.proofs.FramedWrites.{mode-written}
+use Rattle.records.proofs.{FramedWrites.mode-written, image.set_mode.Statement.statement}
 use borrow.Author.Needs.{needs}
-use Rattle.records.proofs.image.set_mode.Statement.{statement}
 use Rattle.records.proofs.image.set_mode.Tie as tie
 
 returns : tie.Need-returns

@@ -1,7 +1,6 @@
 use mathlib.Core.Path.{_∙_}
-use Rattle.records.proofs.FramedWrites.{permissions-written}
+use Rattle.records.proofs.{FramedWrites.permissions-written, image.set_permissions.Statement.statement}
 use borrow.Author.Needs.{needs}
-use Rattle.records.proofs.image.set_permissions.Statement.{statement}
 use Rattle.records.proofs.image.set_permissions.Tie as tie
 
 returns : tie.Need-returns

@@ -1,8 +1,7 @@
-use Rattle.records.proofs.Wrong.{no-action, many-actions, wrong-mode, wrong-blank, settings-right}
+use Rattle.records.proofs.{Wrong.{no-action, many-actions, wrong-mode, wrong-blank, settings-right}, image.settings_fault.Statement.statement}
 use mathlib.Core.Path.{sym, _∙_}
 use native.Mathlib.Omega.{arith}
 use borrow.Author.Needs.{needs}
-use Rattle.records.proofs.image.settings_fault.Statement.{statement}
 use Rattle.records.proofs.image.settings_fault.Tie as tie
 
 returns : tie.Need-returns

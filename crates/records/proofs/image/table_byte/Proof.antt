@@ -1,7 +1,6 @@
 use mathlib.Core.Path.{_∙_}
-use Rattle.records.proofs.Said.{table-byte-said}
+use Rattle.records.proofs.{Said.table-byte-said, image.table_byte.Statement.statement}
 use borrow.Author.Needs.{needs}
-use Rattle.records.proofs.image.table_byte.Statement.{statement}
 use Rattle.records.proofs.image.table_byte.Tie as tie
 
 returns : tie.Need-returns

@@ -1,7 +1,6 @@
 use mathlib.Core.Path.{_∙_}
-use Rattle.records.proofs.FramedWrites.{certificate-written}
+use Rattle.records.proofs.{FramedWrites.certificate-written, image.write_certificate.Statement.statement}
 use borrow.Author.Needs.{needs}
-use Rattle.records.proofs.image.write_certificate.Statement.{statement}
 use Rattle.records.proofs.image.write_certificate.Tie as tie
 
 returns : tie.Need-returns

@@ -1,8 +1,6 @@
-use mathlib.Core.Bool.{not, _&&_, _||_}
-use mathlib.Core.Path.{ap}
+use mathlib.Core.{Bool.{not, _&&_, _||_}, Path.ap}
 use lib.Dec.{eqb}
-use Rattle.rules.specs.Words.{between}
-use Rattle.rules.specs.Actors.{acts-for}
+use Rattle.rules.specs.{Words.between, Actors.acts-for}
 use borrow.Author.Needs.{needs}
 use Rattle.terms.proofs.actors.acts_for.Statement.{statement}
 use Rattle.terms.proofs.actors.acts_for.Tie as tie

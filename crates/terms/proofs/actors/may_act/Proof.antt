@@ -1,14 +1,9 @@
 use Prim.Native.Nat.{ℕ, _+_, _*_, _/_, _^_, _<_}
-use mathlib.Core.Bool.{Bool}
-use mathlib.Core.List.{List, [], _∷_}
-use mathlib.Core.Path.{_≡_}
-use lib.Dec.{T, eqb}
-use lib.Bits.{bitAnd}
-use lib.ListN.{getD}
+use mathlib.Core.{Bool.Bool, List.{List, [], _∷_}, Path._≡_}
+use lib.{Dec.{T, eqb}, Bits.bitAnd, ListN.getD}
 use Rattle.rules.specs.Actors.{may-act}
-use Rattle.terms.proofs.Finite.{all-below, below, same, same-is}
+use Rattle.terms.proofs.{Finite.{all-below, below, same, same-is}, actors.may_act.Statement.statement}
 use borrow.Author.Needs.{needs}
-use Rattle.terms.proofs.actors.may_act.Statement.{statement}
 use Rattle.terms.proofs.actors.may_act.Tie as tie
 
 -- what a table says of a kind, a domain and an actor

@@ -1,6 +1,5 @@
 use borrow.Author.Needs.{needs}
-use Rattle.terms.proofs.FormTests.{action-form-is}
-use Rattle.terms.proofs.forms.action_form.Statement.{statement}
+use Rattle.terms.proofs.{FormTests.action-form-is, forms.action_form.Statement.statement}
 use Rattle.terms.proofs.forms.action_form.Tie as tie
 
 returns : tie.Need-returns

@@ -1,6 +1,5 @@
 use borrow.Author.Needs.{needs}
-use Rattle.terms.proofs.FormTests.{card-form-is}
-use Rattle.terms.proofs.forms.card_form.Statement.{statement}
+use Rattle.terms.proofs.{FormTests.card-form-is, forms.card_form.Statement.statement}
 use Rattle.terms.proofs.forms.card_form.Tie as tie
 
 returns : tie.Need-returns

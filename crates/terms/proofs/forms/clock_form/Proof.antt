@@ -1,6 +1,5 @@
 use borrow.Author.Needs.{needs}
-use Rattle.terms.proofs.FormTests.{clock-form-is}
-use Rattle.terms.proofs.forms.clock_form.Statement.{statement}
+use Rattle.terms.proofs.{FormTests.clock-form-is, forms.clock_form.Statement.statement}
 use Rattle.terms.proofs.forms.clock_form.Tie as tie
 
 returns : tie.Need-returns

@@ -1,6 +1,5 @@
 use borrow.Author.Needs.{needs}
-use Rattle.terms.proofs.FormTests.{executable-form-is}
-use Rattle.terms.proofs.forms.executable_form.Statement.{statement}
+use Rattle.terms.proofs.{FormTests.executable-form-is, forms.executable_form.Statement.statement}
 use Rattle.terms.proofs.forms.executable_form.Tie as tie
 
 returns : tie.Need-returns

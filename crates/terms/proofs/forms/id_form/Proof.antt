@@ -1,6 +1,5 @@
 use borrow.Author.Needs.{needs}
-use Rattle.terms.proofs.FormTests.{id-form-is}
-use Rattle.terms.proofs.forms.id_form.Statement.{statement}
+use Rattle.terms.proofs.{FormTests.id-form-is, forms.id_form.Statement.statement}
 use Rattle.terms.proofs.forms.id_form.Tie as tie
 
 returns : tie.Need-returns

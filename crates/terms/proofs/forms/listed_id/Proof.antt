@@ -2,8 +2,7 @@ use borrow.Author.Needs.{needs}
 use mathlib.Core.Path.{sym, ap}
 use Rattle.rules.specs.Forms.{eight}
 use lib.ListN.{getD}
-use Rattle.terms.proofs.Listed.{past-eight}
-use Rattle.terms.proofs.forms.listed_id.Statement.{statement}
+use Rattle.terms.proofs.{Listed.past-eight, forms.listed_id.Statement.statement}
 use Rattle.terms.proofs.forms.listed_id.Tie as tie
 
 returns : tie.Need-returns

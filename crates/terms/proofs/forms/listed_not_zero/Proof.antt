@@ -1,16 +1,11 @@
 use Prim.Native.Nat.{_<_, _≤_, _-_}
-use mathlib.Core.Bool.{not}
-use mathlib.Core.Path.{_≡_, refl, ap}
+use mathlib.Core.{Bool.not, Path.{_≡_, refl, ap}}
 use native.Mathlib.Omega.{arith}
-use borrow.Author.Tests.{eq-eqb, ne-eqb}
-use borrow.Author.Needs.{needs}
-use lib.Dec.{eqb}
-use lib.ListN.{drop}
-use Rattle.rules.specs.Words.{all}
-use Rattle.rules.specs.Forms.{listed}
+use borrow.{Author.Tests.{eq-eqb, ne-eqb}, Author.Needs.needs}
+use lib.{Dec.eqb, ListN.drop}
+use Rattle.rules.specs.{Words.all, Forms.listed}
 use Rattle.laws.proofs.Loops.{all-stops, all-goes-on, all-passes}
-use Rattle.terms.proofs.Listed.{listed-length, listed-at}
-use Rattle.terms.proofs.forms.listed_not_zero.Statement.{statement}
+use Rattle.terms.proofs.{Listed.{listed-length, listed-at}, forms.listed_not_zero.Statement.statement}
 use Rattle.terms.proofs.forms.listed_not_zero.Tie as tie
 
 abbrev Inv-loop : tie.InvT-loop

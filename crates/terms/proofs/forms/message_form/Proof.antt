@@ -1,6 +1,5 @@
 use borrow.Author.Needs.{needs}
-use Rattle.terms.proofs.FormTests.{message-long, message-short}
-use Rattle.terms.proofs.forms.message_form.Statement.{statement}
+use Rattle.terms.proofs.{FormTests.{message-long, message-short}, forms.message_form.Statement.statement}
 use Rattle.terms.proofs.forms.message_form.Tie as tie
 
 returns : tie.Need-returns

@@ -1,6 +1,5 @@
 use borrow.Author.Needs.{needs}
-use Rattle.terms.proofs.FormTests.{new-is}
-use Rattle.terms.proofs.forms.new_certificate.Statement.{statement}
+use Rattle.terms.proofs.{FormTests.new-is, forms.new_certificate.Statement.statement}
 use Rattle.terms.proofs.forms.new_certificate.Tie as tie
 
 returns : tie.Need-returns

@@ -1,6 +1,5 @@
 use borrow.Author.Needs.{needs}
-use Rattle.terms.proofs.FormTests.{owned-form-is}
-use Rattle.terms.proofs.forms.owned_form.Statement.{statement}
+use Rattle.terms.proofs.{FormTests.owned-form-is, forms.owned_form.Statement.statement}
 use Rattle.terms.proofs.forms.owned_form.Tie as tie
 
 returns : tie.Need-returns

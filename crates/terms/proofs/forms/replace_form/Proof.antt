@@ -1,6 +1,5 @@
 use borrow.Author.Needs.{needs}
-use Rattle.terms.proofs.FormTests.{replace-form-is}
-use Rattle.terms.proofs.forms.replace_form.Statement.{statement}
+use Rattle.terms.proofs.{FormTests.replace-form-is, forms.replace_form.Statement.statement}
 use Rattle.terms.proofs.forms.replace_form.Tie as tie
 
 returns : tie.Need-returns

@@ -3,10 +3,8 @@ use mathlib.Core.Path.{_≡_, refl, sym, _∙_}
 use native.Mathlib.Omega.{arith}
 use borrow.Author.Needs.{needs}
 use lib.ListN.{drop}
-use Rattle.rules.specs.Words.{all-zero}
-use Rattle.rules.specs.Forms.{eight, unlisted}
-use Rattle.terms.proofs.Listed.{zero-stops, zero-goes-on, zero-passes}
-use Rattle.terms.proofs.forms.unlisted_zero.Statement.{statement}
+use Rattle.rules.specs.{Words.all-zero, Forms.{eight, unlisted}}
+use Rattle.terms.proofs.{Listed.{zero-stops, zero-goes-on, zero-passes}, forms.unlisted_zero.Statement.statement}
 use Rattle.terms.proofs.forms.unlisted_zero.Tie as tie
 
 abbrev Inv-loop : tie.InvT-loop
