@@ -38,7 +38,7 @@ fn lesson(s: &mut [u8]) {
     let mut out = io::large_buffer();
     let fault = opening::open(s);
     if fault.rule != 0 {
-        let told = opening::refused_at(s, fault);
+        let told = opening::told(s, fault);
         let refusal = stream::put_refusal(&mut out, told.rule, told.offset);
         io::write_all(STDOUT_FILENO, &out[..refusal]);
         return;

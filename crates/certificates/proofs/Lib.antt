@@ -4,5 +4,4 @@ pub mod Enables
 pub mod Marking
 pub mod MarksAndMessages
 pub mod NamedCertificate
-pub mod Owners
-pub mod Rivals
+pub mod OtherOwners

@@ -3,11 +3,11 @@ use Prim.Native.Nat.{ℕ, _<_}
 use mathlib.Core.{Bool.{Bool, true, false, cond, not}, List.{List, [], _∷_, _++_}, Logic._≢_, Path.{_≡_, refl, sym, ap, subst, _∙_}}
 use native.Mathlib.Omega.{arith}
 use lib.{Dec.{T, T-not, eqb}, ListN.{length, getD, drop}}
-use Rattle.records.specs.{Phone.{Phone, certificate-at}, declared.Certificate.Certificate, declared.Event.Event}
-use Rattle.rules.specs.{Words.{Check, _⇒_, first, first-place}, Chains.present, Forms.{with-kind, forms, no-form, owned-form}}
-use Rattle.rules.specs.Codes.{has-id, names-certificate, certificate-known, certificate-named, code-of}
+use Rattle.records.specs.{Phone.{Phone, decode, no-certificate, certificate-at}, declared.Certificate.Certificate, declared.Event.Event}
+use Rattle.rules.specs.{Words.{Check, _⇒_, first, first-place}, Chains.present, ImageRules.slot-fits, Forms.{with-kind, forms, no-form, owned-form}}
+use Rattle.rules.specs.{Codes.{has-id, names-certificate, certificate-known, certificate-named, code-of}, AcceptedImage.Accepted-image}
 use Rattle.handling.specs.{declared.Plan.Plan, Plans.{plan, on-certificate, allowed-rows, certificate-rows}}
-use Rattle.laws.proofs.Tests.{and-l, and-r, eq→eqb, coded}
+use Rattle.laws.proofs.{Tests.{and-l, and-r, eq→eqb, coded}, Accepts.accepted-out, Slots.mem-at, Fits.slot-in}
 use Rattle.handling.proofs.{CodeRows.{none, here, next, gives}, Decided.{formed, refused-first, refused-next, on-next}, Handles.named-id}
 use Rattle.handling.proofs.{Named.certificate-here, PlanLaws.{on-code, on-slot, certificate-within}}
 use Rattle.lookup.proofs.FirstWithin.{first-within}
@@ -139,3 +139,13 @@ module _ (k : ℕ) (p : Phone) (e : Event) (h : T (names-certificate k)) (f : T 
 
 pub about-named : {k : ℕ} {p : Phone} {e : Event} {i : ℕ} → About k p e i → {c : Certificate} → c ≡ certificate-at p i → c ≡ certificate-named p (e .id)
 about-named {k} {p} {e} a = certificate-here p (e .id) (a .slot)
+
+-- ---- a record that was read at a slot with a certificate that is present
+
+pub read-fits : {l : List ℕ} {i : ℕ} {c : Certificate} → Accepted-image l → Present-at (decode l) i → c ≡ certificate-at (decode l) i → T (slot-fits c)
+read-fits {l} {i} a h q =
+    let held = accepted-out l (a .accepted) .1 .trust .held in
+    subst (λ x. T (slot-fits x)) (sym q) (slot-in _ (held .slots _ (mem-at (decode l .trust .certificates) i no-certificate (h .within))))
+
+pub read-there : {p : Phone} {i : ℕ} {c : Certificate} → Present-at p i → c ≡ certificate-at p i → present (p .trust .seen) c ≡ true
+read-there {p} h q = ap (present (p .trust .seen)) q ∙ h .there

@@ -1,18 +1,11 @@
 -- What stands against making a certificate valid, by marking it or by replacing it. Definitions only.
-use Prim.Native.Nat.{ℕ}
-use mathlib.Core.{Bool.{Bool, not, _&&_, _||_}, List.{List, [], _∷_, _++_}}
+use mathlib.Core.{Bool.not, List.{List, [], _∷_, _++_}}
 use lib.Dec.{eqb, ltb}
 use Rattle.records.specs.{Phone.Phone, declared.Certificate.Certificate, declared.Event.Event}
-use Rattle.rules.specs.{Words.{any, Check, _⇒_, first, first-place}, Chains.{in-date, valid-root}}
+use Rattle.rules.specs.{Words.{any, Check, _⇒_, first, first-place}, Chains.in-date}
 use Rattle.rules.specs.Codes.{has-id, certificate-named, in-another, rival, may-replace}
 use Rattle.handling.specs.{declared.Plan.Plan, Plans.{plan, certificate-rows}}
 use Rattle.certificates.specs.Decisions.{of-other-operator}
-
--- 13, of a root c that is present on an accepted phone, and is the operator's or the manufacturer's: x is a valid root of its domain and another one,
--- in its place or on the card that is present
-abbrev pub near-rival : ℕ → ℕ → Certificate → Certificate → Bool
-near-rival clock card c x =
-    valid-root clock x && eqb (x .domain) (c .domain) && not (eqb (x .id) (c .id)) && (eqb (x .place) (c .place) || eqb (x .place) card)
 
 -- of c being valid, besides what stands against any event on it and besides its date
 abbrev pub validity-rows : Phone → Certificate → List Check

@@ -17,10 +17,10 @@ module _ (n : ℕ) (u : Trust) {x y : Executable} (q : x ≡ y) {b : Bool} (e : 
   unfolding settled-in
   settled-by z h = ap (λ z. cond z y (in-domain 0 y)) (sym h ∙ e ∙ ap (chained-in n u) q)
 
-  pub settled-written : b ≡ false → in-domain 0 y ≡ settled-in n u y
+  settled-written : b ≡ false → in-domain 0 y ≡ settled-in n u y
   settled-written h = settled-by false h
 
-  pub settled-skipped : b ≡ true → y ≡ settled-in n u y
+  settled-skipped : b ≡ true → y ≡ settled-in n u y
   settled-skipped h = settled-by true h
 
 module _ (t : Trust) where

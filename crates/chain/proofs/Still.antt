@@ -16,7 +16,7 @@ use Rattle.chain.specs.Breaks.{disables, runs-out}
 
 module _ (p : Phone) (ok : Accepted p) where
   -- a phone that trusts no fewer keys and has the same executables: each still chains
-  pub widened-still : (q : Phone) → Fewer (p .trust) (q .trust) → q .executables ≡ p .executables → settle q ≡ q
+  widened-still : (q : Phone) → Fewer (p .trust) (q .trust) → q .executables ≡ p .executables → settle q ≡ q
   widened-still q f e =
       settle-still q (λ x m d. fewer-chains (p .trust) (q .trust) f (x .signing) (x .domain) (ok .chained x (subst (List·Memᴰ x) e m) d))
 

@@ -21,7 +21,7 @@ enabled : (e : Event) (c : Certificate) → e .third ≡ 1 → enabled-by e c �
 unfolding enabled-by
 enabled e c h = subst (λ m. _≡_ {A = ℕ} (cond (eqb m 1 || (eqb m 2 && any (eqb (c .id)) (listed e))) 1 0) 1) (sym h) refl
 
-pub enabling-widens : (s : Seen) (e : Event) (c : Certificate) → e .third ≡ 1 → Narrows s s c (at third-party-root (λ c. enabling (enabled-by e c) c) c)
+enabling-widens : (s : Seen) (e : Event) (c : Certificate) → e .third ≡ 1 → Narrows s s c (at third-party-root (λ c. enabling (enabled-by e c) c) c)
 enabling-widens s e c h =
     at-cases (λ hi lo. Narrows s s lo hi) third-party-root (λ c. enabling (enabled-by e c) c) c
     (λ t. narrows-marked s c (c .mark) (c .enabled) (c .mark) (enabled-by e c) (λ m. m) (λ m. enabled e c h))

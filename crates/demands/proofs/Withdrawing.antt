@@ -57,7 +57,7 @@ under-change p t f h = under-map p (at t f) (λ x. at-cases (λ lo hi. lo .id �
 
 -- ---- each withdrawing kind, but for settling
 
-pub effect-under : (p : Phone) (e : Event) → Unrefused p e → T (withdrawing p e) → Under (effect e p) p
+effect-under : (p : Phone) (e : Event) → Unrefused p e → T (withdrawing p e) → Under (effect e p) p
 unfolding the-effects time-back
 effect-under p e d w =
     by-withdrawing (λ k. Unrefused p (with-kind k e) → Under (effect (with-kind k e) p) p) p e

@@ -7,10 +7,10 @@ use lib.{Dec.{eqb, leb}, ListN.{length, getD, List·getD-eq-default}}
 use Rattle.octets.proofs.ByteLaws.{Bytes}
 use Rattle.records.specs.{Sizes.event-size, Layout.event-read, Phone.{Phone, decode, encode}, declared.Event.Event}
 use Rattle.records.proofs.RoundTrip.{frame}
-use Rattle.rules.specs.{declared.Answer.Answer, Words.first, declared.Fault.Fault, ImageRules.{broken, accepted}, Faults.fault}
+use Rattle.rules.specs.{declared.Answer.Answer, Words.first, declared.Fault.Fault, ImageRules.accepted, Faults.fault}
 use Rattle.rules.specs.{Forms.{with-kind, forms, no-form, malformed}, Codes.{code-of, code}, Effects.changed}
-use Rattle.rules.specs.{Step.{Outcome, refused, refused-at, refusal, done, step}, AcceptedImage.Accepted-image}
-use Rattle.laws.proofs.{Accepts.accepted-out, Promise.accepted-image}
+use Rattle.rules.specs.{Step.{Outcome, refused, opened, refusal, done, step}, AcceptedImage.Accepted-image}
+use Rattle.laws.proofs.{Accepts.accepted-out, Where.{fault-refused, opened-broken}, Promise.accepted-image}
 use Rattle.keeping.proofs.Bytes.{code-whole, step-refused, accepted-step, refusal-cases, never-one}
 use Rattle.events.specs.Stepped.{Stepped, Stepped-accepted}
 use Rattle.handling.specs.Handled.{told, left, Handled}
@@ -108,10 +108,10 @@ module _ (l v : List ℕ) where
       record { answer = q ∙ ap (refusal l) c ∙ sym (ap (λ o. o .answer) s); image = sym (ap (λ o. o .image) s) }
 
   -- an image that is not accepted
-  pub broken-stepped : (f : Fault) → f ≡ fault l → f .rule ≢ 0 → (x : Answer) → x ≡ refused-at l → Stepped l v x l
-  unfolding code first accepted fault refusal
+  pub broken-stepped : (f : Fault) → f ≡ fault l → f .rule ≢ 0 → (x : Answer) → x ≡ opened l → Stepped l v x l
+  unfolding code first refusal
   broken-stepped f o h x q =
-      refused-stepped 1 (rw (ne-eqb (broken l) 0 (λ z. h (ap (λ f. f .rule) o ∙ z)))) (λ z. omega arith) x q
+      refused-stepped 1 (rw (fault-refused l o h)) (λ z. omega arith) x (q ∙ opened-broken l o h)
 
   module _ (a : Accepted-image l) where
     -- an event of another length

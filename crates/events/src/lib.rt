@@ -58,7 +58,7 @@ pub fn step(s: &mut [u8], v: &[u8]) -> Answer
 {
     let fault = opening::open(s);
     if fault.rule != 0 {
-        return opening::refused_at(s, fault);
+        return opening::told(s, fault);
     }
     step_accepted(s, v)
 }

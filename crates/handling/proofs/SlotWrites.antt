@@ -38,13 +38,13 @@ module _ {A : Type 0} (t : A → Bool) (d : A) where
     pub passes-there : T (t (getD l k d))
     passes-there = subst (λ n. T (t (getD l n d))) (sym e) (passes l (omega arith))
 
-    pub fill-there : (a : A) → fill t a l ≡ set l k a
+    fill-there : (a : A) → fill t a l ≡ set l k a
     fill-there a = fill-is t a d l k h passes-there (λ j m. fails-before l j (omega arith))
 
     pub find-there : find t d l ≡ getD l k d
     find-there = find-is t d l k h passes-there (λ j m. fails-before l j (omega arith))
 
-pub change-there : {A : Type 0} (i : A → ℕ) (n : ℕ) (f : A → A) (d : A) (l : List A) (k : ℕ)
+change-there : {A : Type 0} (i : A → ℕ) (n : ℕ) (f : A → A) (d : A) (l : List A) (k : ℕ)
     → k ≡ first-place (λ x. eqb (i x) n) l → k < length l → 0 < n → T (distinct (map i l)) → change (λ x. eqb (i x) n) f l ≡ set l k (f (getD l k d))
 change-there i n f d l k e h nz u =
     set-is i n f d l k h (eqb→eq (i (getD l k d)) n (passes-there (λ x. eqb (i x) n) d l k e h)) (λ z. omega arith) u

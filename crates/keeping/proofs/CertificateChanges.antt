@@ -121,7 +121,7 @@ module _ (p : Phone) where
       nand (phone-operator-root x) (has-valid-operator (p .trust) (seen .card) || not (eqb (x .owner) own)) (a .1) (search tests)
 
   -- the rule alone makes it yield, whatever was valid before
-  pub rule-yields : Yielding (p .cards) seen (card-rule p .trust .certificates)
+  rule-yields : Yielding (p .cards) seen (card-rule p .trust .certificates)
   unfolding card-rule
   rule-yields =
       record {

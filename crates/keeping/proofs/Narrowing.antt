@@ -33,7 +33,7 @@ narrows-refl s c = narrows-marked s c (c .mark) (c .enabled) (c .mark) (c .enabl
 pub narrows-free : (s : Seen) (c : Certificate) → Narrows s s no-certificate c
 narrows-free s c = record { root = λ h. absurd (free-untrusted s h); issued = λ h. absurd (free-no-link s h) }
 
-pub narrows-wider : (q p : Seen) (c : Certificate) → Wider q p → Narrows q p c c
+narrows-wider : (q p : Seen) (c : Certificate) → Wider q p → Narrows q p c c
 narrows-wider q p c w = record { root = λ h. (wider-trusted q p c w h, like-refl c); issued = λ h. (wider-link q p c w h, like-refl c) }
 
 -- ---- all certificates

@@ -162,7 +162,7 @@ after-verifies (n ∷ ns) p ok =
 abbrev pub all-verified : Phone → Phone
 all-verified p = with-executables (map (verdict (p .trust)) (p .executables)) p
 
-pub verified-is : (p : Phone) → Accepted p → verified p ≡ all-verified p
+verified-is : (p : Phone) → Accepted p → verified p ≡ all-verified p
 unfolding verified
 verified-is p ok =
     ap (λ es. after-all es p) (sym (map-map verify-event (λ x. x .id) (p .executables)))

@@ -119,7 +119,7 @@ chained-in : (t : Trust) (x : Executable) → (x .domain ≢ 0 → T (chains-to 
 chained-in t x h =
     by-test (eqb (x .domain) 0) (λ z. search tests) (λ z. or-j (eqb (x .domain) 0) (chains-to t (x .signing) (x .domain)) (h (neqb→ne (x .domain) 0 z)))
 
-pub accepts-in : (p : Phone) → Accepted p → Ruled p
+accepts-in : (p : Phone) → Accepted p → Ruled p
 unfolding i2 i3 i6 i7 i8 cards-fit
 accepts-in p o =
     let l = p .trust .certificates in

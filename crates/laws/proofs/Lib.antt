@@ -21,5 +21,6 @@ pub mod More
 pub mod RulesGrow
 pub mod Where
 pub mod Promise
+pub mod Rivals
 pub mod SlotSweeps
 pub mod Tables

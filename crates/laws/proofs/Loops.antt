@@ -36,15 +36,15 @@ module _ {A : Type 0} (d : A) (l : List A) (i : ℕ) where
     pub any-back-done : {b : Bool} → b ≡ any f (drop i l) → i ≤ 0 → b ≡ any f l
     any-back-done {b} q h = let z : i ≡ 0 = omega arith in subst (λ n. b ≡ any f (drop n l)) z q
 
-    pub all-here : i < length l → f (getD l i d) ≡ false → all f (drop i l) ≡ false
+    all-here : i < length l → f (getD l i d) ≡ false → all f (drop i l) ≡ false
     unfolding all
     all-here h e = rw (rest h, e)
 
-    pub all-next : i < length l → f (getD l i d) ≡ true → all f (drop i l) ≡ all f (drop (i + 1) l)
+    all-next : i < length l → f (getD l i d) ≡ true → all f (drop i l) ≡ all f (drop (i + 1) l)
     unfolding all
     all-next h e = rw (rest h, e)
 
-    pub all-end : length l ≤ i → all f (drop i l) ≡ true
+    all-end : length l ≤ i → all f (drop i l) ≡ true
     unfolding all
     all-end h = rw (drop-of-length-le l h)
 

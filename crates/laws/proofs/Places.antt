@@ -65,7 +65,7 @@ module _ {A : Type 0} (t : A → Bool) where
       go true h = sym (lt-ltb 0 (suc (length l)) (omega arith))
       go false h = h ∙ sym (leb·suc-suc (suc (first-place t l)) (length l))
 
-  pub place-find : (d : A) (l : List A) → find t d l ≡ getD l (first-place t l) d
+  place-find : (d : A) (l : List A) → find t d l ≡ getD l (first-place t l) d
   unfolding find first-place
   place-find d [] = refl
   place-find d (x ∷ l) = go (t x) (place-find d l)

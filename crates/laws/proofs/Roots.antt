@@ -23,7 +23,7 @@ pub valid-mark : (d t : ℕ) (c : Certificate) → Valid d t c → c .mark ≡ 1
 unfolding valid-in valid-root
 valid-mark d t c v = search tests
 
-pub valid-in-date : (d t : ℕ) (c : Certificate) → Valid d t c → T (in-date t c)
+valid-in-date : (d t : ℕ) (c : Certificate) → Valid d t c → T (in-date t c)
 unfolding valid-in valid-root
 valid-in-date d t c v = search tests
 
@@ -52,7 +52,7 @@ pub record Like (x c : Certificate) : Type 0 where
   pub owner : x .owner ≡ c .owner
   pub expiry : x .expiry ≡ c .expiry
 
-pub like-in-date : (t : ℕ) (x c : Certificate) → Like x c → T (in-date t x) → T (in-date t c)
+like-in-date : (t : ℕ) (x c : Certificate) → Like x c → T (in-date t x) → T (in-date t c)
 unfolding in-date
 like-in-date t x c k h = subst (λ n. T (leb t n)) (k .expiry) h
 

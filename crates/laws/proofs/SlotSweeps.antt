@@ -50,7 +50,7 @@ module _ {A : Type 0} (t : A → Bool) (d : A) (l : List A) (i : ℕ) (b : Bool)
 -- s is the image s₀ after i of its slots, with what the next turn asks: f sees the number of a slot too
 pub record Sweeping-at {A : Type 0} (k : Part A) (f : ℕ → A → A) (s₀ s : List ℕ) (slots i : ℕ) : Type 0 where
   pub below : i ≤ slots
-  pub every-slot : slots ≡ length (k .slots (decode s₀))
+  every-slot : slots ≡ length (k .slots (decode s₀))
   pub as-many : slots ≡ length (k .slots (decode s))
   pub same-length : length s ≡ length s₀
   pub framed : Framed s

@@ -20,7 +20,7 @@ module _ {A : Type 0} where
   at-each P d (x ∷ l) z h (suc i) = at-each P d l z (λ y m. h y (List·Memᴰ·tail m)) i
 
   -- a test that one slot alone passes: to change every slot that passes is to change that one
-  pub set-miss : (t : A → Bool) (f : A → A) (l : List A) → ((x : A) → List·Memᴰ x l → T (not (t x))) → map (at t f) l ≡ l
+  set-miss : (t : A → Bool) (f : A → A) (l : List A) → ((x : A) → List·Memᴰ x l → T (not (t x))) → map (at t f) l ≡ l
   set-miss t f [] h = refl
   set-miss t f (x ∷ l) h = let r : map (at t f) l ≡ l = set-miss t f l (λ y m. h y (List·Memᴰ·tail m)) in go (t x) (h x (List·Memᴰ·head refl)) r
     where
@@ -86,7 +86,7 @@ module _ {A : Type 0} where
   any-at t d (x ∷ l) zero h p = or-i (t x) (any t l) p
   any-at t d (x ∷ l) (suc k) h p = or-j (t x) (any t l) (any-at t d l k (le-of-suc-le-suc h) p)
 
-  pub any-not : (t : A → Bool) (d : A) (l : List A) → ((k : ℕ) → k < length l → T (not (t (getD l k d)))) → any t l ≡ false
+  any-not : (t : A → Bool) (d : A) (l : List A) → ((k : ℕ) → k < length l → T (not (t (getD l k d)))) → any t l ≡ false
   unfolding any
   any-not t d [] h = refl
   any-not t d (x ∷ l) h = go (t x) (h 0 (omega arith)) (any-not t d l (λ k s. h (suc k) (omega arith)))

@@ -1,16 +1,16 @@
 -- 02, item 1: what the fault of an image is worth. Assumes nothing.
 use Prim.Native.Nat.{ℕ, zero, suc, _+_, _≤_, _<_}
-use mathlib.Core.{Bool.{Bool, true, false, cond, not, _&&_, true≢false, and-assoc, and-true}, List.{List, [], _∷_, _++_}, Logic.{inl, inr}}
+use mathlib.Core.{Bool.{Bool, true, false, cond, not, _&&_, true≢false, and-assoc, and-true}, List.{List, [], _∷_, _++_}, Logic.{_≢_, inl, inr}}
 use mathlib.Core.Path.{_≡_, refl, sym, ap, ap₂, _∙_, subst}
 use native.{Mathlib.Nat.zero-add, Mathlib.Omega.arith, Mathlib.Decide.decLt}
-use borrow.Author.Tests.{eq-eqb, le-leb, lt-leb, le-ltb}
+use borrow.Author.Tests.{eq-eqb, ne-eqb, le-leb, lt-leb, le-ltb}
 use lib.{Dec.{T, eqb, leb, leb→le, eqb→eq}, ListN.{length, getD}}
 use Rattle.records.specs.{Sizes.{header-size, largest-image}, Layout.{certificate-read, card-read, executable-read, row-read}}
 use Rattle.records.specs.Phone.{Phone, decode, no-certificate, no-card, no-executable, no-row, certificate-at, card-at, executable-at, row-at}
 use Rattle.records.specs.Frame.{Field, _right-if_, header-fits, framed, header-fields, total-byte, first-wrong, header-fault}
 use Rattle.records.proofs.{Wrong.too-short, Joined.getD-tabulate, Said.{length-certificates, length-cards, length-executables, length-table, certificate-said}}
 use Rattle.records.proofs.FrameFacts.{fields}
-use Rattle.rules.specs.{declared.Site.Site, Words.{all, Check, _⇒_, first}}
+use Rattle.rules.specs.{declared.Site.Site, declared.Fault.Fault, Words.{all, Check, _⇒_, first}, Step.{refused-at, answer-done, opened}}
 use Rattle.rules.specs.ImageRules.{i2, i3, i4, i5, i6, i7, i8, broken, accepted, row-fits, cards-fit, present-known, places-known}
 use Rattle.rules.specs.Faults.{lowest, of-certificates, of-executables, i3-site, sites, at-rule, no-fault, fault, offset-of, fault-offset}
 use Rattle.rules.specs.FaultNames.{rules, is-right, i1-fields, Wrong-field, Lowest-at, Wrong-card, Within}
@@ -27,6 +27,19 @@ module _ (l : List ℕ) where
   pub no-fault-accepted : fault l .rule ≡ 0 → accepted l ≡ true
   unfolding accepted fault
   no-fault-accepted e = eq-eqb (broken l) 0 e
+
+  pub opened-whole : accepted l ≡ true → opened l ≡ answer-done 0 0
+  unfolding opened
+  opened-whole e = rw e refl
+
+  module _ {f : Fault} (e : f ≡ fault l) (h : f .rule ≢ 0) where
+    pub fault-refused : accepted l ≡ false
+    unfolding accepted fault
+    fault-refused = ne-eqb (broken l) 0 (λ z. h (ap (λ f. f .rule) e ∙ z))
+
+    pub opened-broken : opened l ≡ refused-at l
+    unfolding opened
+    opened-broken = rw fault-refused refl
 
 -- ---- the rules before the named one hold, and that one does not
 

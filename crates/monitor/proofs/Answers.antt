@@ -8,12 +8,11 @@ use Rattle.octets.specs.Octets.{put}
 use Rattle.records.specs.{Sizes.event-size, Phone.{Phone, decode, joined}, declared.Event.Event}
 use Rattle.records.proofs.Joined.{read-joined}
 use Rattle.rules.specs.{Words.{Check, _⇒_, first, find}, ImageRules.{accepted, «open»}, Chains.{most-links, links}, Codes.{executable-named, rows, code}}
-use Rattle.rules.specs.{Effects.changed, declared.Answer.Answer, Step.{refused, refused-at, refusal, done, step, run, answers}}
+use Rattle.rules.specs.{Effects.changed, declared.Answer.Answer, Step.{refused, refused-at, answer-done, opened, refusal, done, step, run, answers}}
 use Rattle.laws.proofs.{Tests.{and-l, and-r, eq→eqb}, Accepted.Accepted, Accepts.accepted-out, Shortest.links-small, Where.{rule-known, offset-small}}
 use Rattle.keeping.specs.OneEvent.{event-of}
 use Rattle.keeping.proofs.{Bytes.{step-cases, step-refused, refusal-cases, code-whole-out}, AcceptedKept.accepted-changed, EventAnswers.zero-if}
 use Rattle.keeping.proofs.Naming.{small-domain}
-use Rattle.opening.specs.Opened.{opened}
 use Rattle.monitor.specs.Told.{packed, told-code, told-domain, told-links, told-rule, told-offset, answer-size, answer-bytes, answer-from, answer-at}
 use Rattle.monitor.specs.Told.{events-of}
 
@@ -123,13 +122,9 @@ module _ (l : List ℕ) where
   unfolding opened
   opened-small = go (accepted l)
     where
-      go : (b : Bool) → Small (cond b (refused 0) (refused-at l))
+      go : (b : Bool) → Small (cond b (answer-done 0 0) (refused-at l))
       go true = code-small 0 (omega arith)
       go false = fault-small l
-
-  pub opened-whole : accepted l ≡ true → opened l ≡ refused 0
-  unfolding opened
-  opened-whole e = rw e refl
 
   pub open-one : accepted l ≢ true → «open» l ≡ 1
   unfolding «open»

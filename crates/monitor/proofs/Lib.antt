@@ -1,5 +1,5 @@
 pub mod Theorems
 pub mod Answers
-pub mod AnswerLines
+pub mod WhyTold
 pub mod TimelineTold
 pub mod RunLaws

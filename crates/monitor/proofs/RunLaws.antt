@@ -8,8 +8,8 @@ use Rattle.octets.specs.Octets.{put}
 use Rattle.octets.proofs.ByteLaws.{put-none, length-put}
 use Rattle.records.specs.{Sizes.event-size, Phone.joined}
 use Rattle.records.proofs.Puts.{put-next}
-use Rattle.rules.specs.{declared.Answer.Answer, declared.Fault.Fault, Faults.fault, Step.{refused-at, run, answers}, AcceptedImage.Accepted-image}
-use Rattle.laws.proofs.Tests.{by-test, neqb→ne}
+use Rattle.rules.specs.{declared.Answer.Answer, declared.Fault.Fault, Faults.fault, Step.{refused-at, opened, run, answers}, AcceptedImage.Accepted-image}
+use Rattle.laws.proofs.{Tests.{by-test, neqb→ne}, Where.opened-broken}
 use Rattle.opening.specs.Opened.{Opened}
 use Rattle.events.specs.Stepped.{Stepped, Stepped-accepted}
 use Rattle.events.proofs.Steps.{broken-stepped}
@@ -42,7 +42,7 @@ stepped-same l v w r l′ e s = subst (λ (x : List ℕ). Stepped-accepted l x r
 abbrev pub told-by : List ℕ → ℕ → List Answer → List ℕ
 told-by out i rs = put out (i * answer-size) (joined answer-bytes rs)
 
-pub tell-next : (out : List ℕ) (i : ℕ) (r : Answer) (rs : List Answer) → i * answer-size ≤ length out
+tell-next : (out : List ℕ) (i : ℕ) (r : Answer) (rs : List Answer) → i * answer-size ≤ length out
     → told-by (put out (i * answer-size) (answer-bytes r)) (i + 1) rs ≡ told-by out i (r ∷ rs)
 tell-next out i r rs h =
     let k : (i + 1) * answer-size ≡ i * answer-size + length (answer-bytes r) = omega arith in
@@ -120,7 +120,7 @@ packed-stepped l v r a l′ q s = record { answer = q ∙ ap packed (s .answer);
 
 module _ (l : List ℕ) (f : Fault) (e : f ≡ fault l) (h : f .rule ≢ 0) where
   still : (v : List ℕ) → Stepped l v (refused-at l) l
-  still v = broken-stepped l v f e h (refused-at l) refl
+  still v = broken-stepped l v f e h (refused-at l) (sym (opened-broken l e h))
 
   broken-run : (vs : List (List ℕ)) → run l vs ≡ l
   unfolding run
@@ -135,13 +135,13 @@ module _ (l : List ℕ) (f : Fault) (e : f ≡ fault l) (h : f .rule ≢ 0) wher
       ap₂ (λ (a : Answer) (x : List ℕ). a ∷ answers x (events-of (drop event-size b) n)) (sym (s .answer)) (sym (s .image))
       ∙ ap (λ (rs : List Answer). refused-at l ∷ rs) (broken-answers n (drop event-size b))
 
-  pub broken-followed : (b out out′ : List ℕ) (n : ℕ) (a : Answer) → a ≡ refused-at l
+  pub broken-followed : (b out out′ : List ℕ) (n : ℕ) (a : Answer) → a ≡ opened l
       → out′ ≡ put out 0 (joined answer-bytes (replicate n a)) → Followed l b out n l out′
   broken-followed b out out′ n a q t =
       record {
         image = sym (broken-run (events-of b n));
         told =
-            t ∙ ap (λ (x : Answer). put out 0 (joined answer-bytes (replicate n x))) q
+            t ∙ ap (λ (x : Answer). put out 0 (joined answer-bytes (replicate n x))) (q ∙ opened-broken l e h)
             ∙ sym (ap (λ (rs : List Answer). put out 0 (joined answer-bytes rs)) (broken-answers n b));
       }
 

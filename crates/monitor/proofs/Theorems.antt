@@ -12,22 +12,22 @@ use Rattle.octets.specs.Octets.{bytes, put}
 use Rattle.octets.proofs.ByteLaws.{getD-put-after}
 use Rattle.records.specs.{Sizes.event-size, Phone.{decode, joined}}
 use Rattle.records.proofs.Joined.{length-joined}
-use Rattle.rules.specs.{declared.Answer.Answer, ImageRules.{accepted, «open»}, Faults.{fault, fault-offset}, Codes.code, Step.{refused, step, run, answers}}
-use Rattle.laws.proofs.Where.{no-fault-accepted, rule-known}
+use Rattle.rules.specs.{declared.Answer.Answer, ImageRules.{accepted, «open»}, Faults.{fault, fault-offset}, Codes.code}
+use Rattle.rules.specs.Step.{refused, opened, step, run, answers}
+use Rattle.laws.proofs.Where.{no-fault-accepted, opened-whole, rule-known}
 use Rattle.keeping.proofs.EventAnswers.{answer-code, told-where, told-no-fault}
-use Rattle.opening.specs.Opened.{opened}
 use Rattle.opening.proofs.Offsets.{opened-told}
 use Rattle.explanations.specs.Why.{said-link, line, explanation}
 use Rattle.reasons.specs.Lines.{line-size, most-lines, with-lines, why-code, lines-of}
 use Rattle.reasons.proofs.Room.{lines-few, lines-some}
 use Rattle.timeline.specs.{Timeline.{timed, timeline-code, timeline-events, most-events}, Unrolls.with-events, Running.in-turn}
-use Rattle.timeline.proofs.{UnrollsTold.{no-events, events-none}, Lengths.{events-few, events-whole}, Theorems.run-as-events}
+use Rattle.timeline.proofs.{UnrollsTold.{no-events, events-none}, EventCounts.{events-few, events-whole}, Theorems.run-as-events}
 use Rattle.monitor.specs.Told.{packed, told-code, told-domain, told-links, told-rule, told-offset, Stepped, answer-size, answer-bytes, answer-at}
 use Rattle.monitor.specs.Told.{events-of, event-count, answered, Ran, why-packed, told-lines, line-at, Asked, timeline-packed, told-events, event-at}
 use Rattle.monitor.specs.Told.{Unrolled-for}
 use Rattle.monitor.proofs.RunLaws.{counted, answered-room}
 use Rattle.monitor.proofs.Answers as Answers
-use Rattle.monitor.proofs.AnswerLines as Lines
+use Rattle.monitor.proofs.WhyTold as Lines
 use Rattle.monitor.proofs.TimelineTold as Timelines
 
 -- ==== the number that monitor_open and monitor_step answer
@@ -55,7 +55,7 @@ module _ (l : List ℕ) (r : ℕ) (o : r ≡ packed (opened l)) where
   -- "0 where the bytes are an image that keeps every rule", and nowhere else
   pub open-zero : (r ≡ 0) ↔ (accepted l ≡ true)
   open-zero =
-      (λ z. no-fault-accepted l (sym (open-read .3) ∙ ap told-rule z), λ a. o ∙ ap packed (Answers.opened-whole l a))
+      (λ z. no-fault-accepted l (sym (open-read .3) ∙ ap told-rule z), λ a. o ∙ ap packed (opened-whole l a))
 
   -- "code 1", "the first broken rule, 1 to 8"
   pub open-refused : r ≢ 0 → (told-code r ≡ 1) × (told-rule r ≢ 0) × (told-rule r ≤ 8)

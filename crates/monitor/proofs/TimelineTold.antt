@@ -6,13 +6,12 @@ use lib.{ListN.{length, getD, take, drop, length-take}, Seq.{take-all, take-at, 
 use Rattle.octets.specs.Octets.{put}
 use Rattle.octets.proofs.ByteLaws.{getD-put-after}
 use Rattle.records.specs.{Sizes.event-size, Phone.joined}
-use Rattle.rules.specs.{declared.Answer.Answer, ImageRules.{accepted, «open»}, Faults.{fault, fault-offset}, Step.{run, answers}}
+use Rattle.rules.specs.{declared.Answer.Answer, ImageRules.{accepted, «open»}, Faults.{fault, fault-offset}, Step.{opened, run, answers}}
 use Rattle.laws.proofs.Where.{rule-known, offset-small}
-use Rattle.opening.specs.Opened.{opened}
 use Rattle.opening.proofs.Offsets.{opened-told}
 use Rattle.timeline.specs.{declared.Unrolled.Unrolled, Timeline.{timeline-code, timeline-events}, Unrolls.{room, with-events, unroll, Unrolls}}
-use Rattle.timeline.proofs.{EventsPlaced.Whole, UnrollsTold.{code-broken, events-none}, Codes.code-most}
-use Rattle.timeline.proofs.Lengths.{whole-take, length-whole, placed-within, events-few}
+use Rattle.timeline.proofs.{EventsPlaced.Whole, UnrollsTold.{code-broken, events-none}, TimelineCodes.code-most}
+use Rattle.timeline.proofs.EventCounts.{whole-take, length-whole, placed-within, events-few}
 use Rattle.monitor.specs.Told.{packed, told-code, told-rule, told-offset, answer-size, answer-bytes, events-of, Ran, timeline-packed, told-events}
 use Rattle.monitor.specs.Told.{event-at, Unrolled-for}
 use Rattle.monitor.proofs.{RunLaws.counted, Answers.open-one}

@@ -11,7 +11,7 @@ ghost use Rattle.octets.specs.Octets.{put};
 ghost use Rattle.records.specs.Sizes.{event-size};
 ghost use Rattle.records.specs.Phone.{joined};
 ghost use Rattle.rules.specs.AcceptedImage.{Accepted-image};
-ghost use Rattle.opening.specs.Opened.{opened};
+ghost use Rattle.rules.specs.Step.{opened};
 ghost use Rattle.events.specs.Stepped.{Stepped-accepted};
 ghost use Rattle.reasons.specs.Lines.{most-lines};
 ghost use Rattle.timeline.specs.Timeline.{most-events};
@@ -131,7 +131,7 @@ pub extern "C" fn monitor_run(image: &mut [u8], events: &[u8], answers: &mut [u8
     let n = answered(events.len(), answers.len());
     let fault = opening::open(image);
     if fault.rule != 0 {
-        refuse(answers, n, opening::refused_at(image, fault));
+        refuse(answers, n, opening::told(image, fault));
         return n;
     }
     follow(image, events, answers, n);

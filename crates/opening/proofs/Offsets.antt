@@ -1,15 +1,14 @@
 -- What is told of an image: the byte of what is wrong, which is that of a record by its number, and the answer. Assumes nothing.
 use Prim.Native.Nat.{ℕ, _+_, _*_, _≤_, _<_}
-use mathlib.Core.{Bool.{Bool, true, false, cond}, List.List, Path.{_≡_, refl, sym, ap, ap₂, _∙_, subst}}
+use mathlib.Core.{Bool.{Bool, true, false, cond}, List.List, Path.{_≡_, refl, sym, ap, _∙_, subst}}
 use native.Mathlib.Omega.{arith}
 use lib.{Dec.eqb, ListN.length}
 use Rattle.records.specs.{Sizes.{header-size, certificate-size, card-size, executable-size, row-size}, Phone.{decode, cards-at, executables-at, table-at}}
 use Rattle.records.specs.Frame.{framed}
 use Rattle.records.proofs.{Said.{length-certificates, length-cards, length-executables}, FrameFacts.fields}
 use Rattle.rules.specs.{declared.Answer.Answer, declared.Site.Site, declared.Fault.Fault, ImageRules.{accepted, «open»}}
-use Rattle.rules.specs.{Faults.{offset-of, fault, fault-offset}, Step.{refused, refused-at}, FaultNames.Within}
+use Rattle.rules.specs.{Faults.{offset-of, fault, fault-offset}, Step.{answer-done, refused-at, opened}, FaultNames.Within}
 use Rattle.laws.proofs.Where.{accepted-no-fault, fault-within, offset-small}
-use Rattle.opening.specs.Opened.{opened}
 
 -- accepted or not: an accepted image has no fault
 pub opened-told : (l : List ℕ) → opened l ≡ record { code = «open» l; domain = 0; links = 0; rule = fault l .rule; offset = fault-offset l }
@@ -17,7 +16,7 @@ unfolding opened «open»
 opened-told l = go (accepted l) refl
   where
     go : (b : Bool) → accepted l ≡ b
-        → cond b (refused 0) (refused-at l) ≡ record { code = cond b 0 1; domain = 0; links = 0; rule = fault l .rule; offset = fault-offset l }
+        → cond b (answer-done 0 0) (refused-at l) ≡ record { code = cond b 0 1; domain = 0; links = 0; rule = fault l .rule; offset = fault-offset l }
     go true e = rw (accepted-no-fault l e) refl
     go false e = refl
 
@@ -72,11 +71,7 @@ module _ (l : List ℕ) {f : Fault} (e : f ≡ fault l) where
 
   -- ---- the answer; o is that byte
 
-  module _ {o : ℕ} (q : o ≡ fault-offset l) where
-    pub refuses : _≡_ {A = Answer} (record { code = 1; domain = 0; links = 0; rule = f .rule; offset = o }) (refused-at l)
-    refuses = ap₂ (λ r o. record { code = 1; domain = 0; links = 0; rule = r; offset = o }) (ap (λ x. x .rule) e) q
-
-    pub tells : {c : ℕ} → c ≡ cond (eqb (f .rule) 0) 0 1
-        → _≡_ {A = Answer} (record { code = c; domain = 0; links = 0; rule = f .rule; offset = o }) (opened l)
-    unfolding «open» accepted fault
-    tells p = cc (opened-told l)
+  pub tells : {o : ℕ} → o ≡ fault-offset l → {c : ℕ} → c ≡ cond (eqb (f .rule) 0) 0 1
+      → _≡_ {A = Answer} (record { code = c; domain = 0; links = 0; rule = f .rule; offset = o }) (opened l)
+  unfolding «open» accepted fault
+  tells q p = cc (opened-told l)

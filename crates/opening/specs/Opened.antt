@@ -1,9 +1,8 @@
 -- What opening an image tells. Definitions only.
 use Prim.Native.Nat.{ℕ}
-use mathlib.Core.{Bool.{true, cond}, List.List, Path._≡_}
+use mathlib.Core.{Bool.true, List.List, Path._≡_}
 use Rattle.records.specs.{Phone.decode, Frame.framed}
-use Rattle.rules.specs.{ImageRules.{i2, i3, i4, i5, accepted}, Faults.fault, declared.Answer.Answer, declared.Fault.Fault, Step.{refused, refused-at}}
-use Rattle.rules.specs.AcceptedImage.{Accepted-image}
+use Rattle.rules.specs.{ImageRules.{i2, i3, i4, i5}, Faults.fault, declared.Fault.Fault, AcceptedImage.Accepted-image}
 
 -- "Opening an image .. should also tell the first broken rule, 1 to 8, and a byte offset"
 pub record Opened (l : List ℕ) (r : Fault) : Type 0 where
@@ -17,7 +16,3 @@ pub record Kept (l : List ℕ) : Type 0 where
   pub i3 : i3 (decode l) ≡ true
   pub i4 : i4 (decode l) ≡ true
   pub i5 : i5 (decode l) ≡ true
-
--- "opening an image answers 0 or 1", and where it is wrong
-unfoldable pub opened : List ℕ → Answer
-opened l = cond (accepted l) (refused 0) (refused-at l)

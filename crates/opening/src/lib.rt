@@ -20,8 +20,8 @@ ghost use Rattle.records.specs.Frame.{framed, Framed};
 ghost use Rattle.rules.specs.Words.{all};
 ghost use Rattle.rules.specs.ImageRules.{row-fits, i2, i3, i4, i5, i6, i7, i8};
 ghost use Rattle.rules.specs.Faults.{lowest, certificate-site, executable-site, i3-site, no-fault, at-rule, fault, fault-offset};
-ghost use Rattle.rules.specs.Step.{refused-at};
-ghost use Rattle.opening.specs.Opened.{Kept, Opened, opened};
+ghost use Rattle.rules.specs.Step.{opened};
+ghost use Rattle.opening.specs.Opened.{Kept, Opened};
 
 // ---- a record that breaks a rule, if there is one
 
@@ -257,20 +257,6 @@ fn offset(s: &[u8], f: Fault) -> u16
 {
     let here = span_of(s, f);
     (here.at + here.size * here.index) as u16
-}
-
-// "code 1 as before; the answer gains two numbers".
-pub fn refused_at(s: &[u8], f: Fault) -> Answer
-    requires { ⌜ f ≡ fault (now s) ⌝ }
-    ensures { λ r. ⌜ r ≡ refused-at (now (s .entry)) ⌝ }
-{
-    Answer {
-        code: 1,
-        domain: 0,
-        links: 0,
-        rule: f.rule,
-        offset: offset(s, f),
-    }
 }
 
 // "opening an image answers 0 or 1".

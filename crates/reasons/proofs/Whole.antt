@@ -8,10 +8,9 @@ use Rattle.octets.specs.Octets.{put}
 use Rattle.octets.proofs.ByteLaws.{put-none}
 use Rattle.records.specs.{Phone.{Trust, decode, no-executable}, declared.Executable.Executable}
 use Rattle.rules.specs.{declared.Chained.Chained, Words.any, Chains.{chain-domain, links, chain-of, most-links}, declared.Answer.Answer, declared.Fault.Fault}
-use Rattle.rules.specs.{ImageRules.accepted, Faults.fault, Step.{refused-at, refusal}, Codes.{is-executable, executable-named, executable-known}}
+use Rattle.rules.specs.{ImageRules.accepted, Faults.fault, Step.{opened, refusal}, Codes.{is-executable, executable-named, executable-known}}
 use Rattle.rules.specs.AcceptedImage.{Accepted-image}
-use Rattle.rules.specs.ImageRules as ImageRules
-use Rattle.laws.proofs.{Tests.{eq→eqb, ne→neqb, not-intro}, Accepts.true-T, Shortest.links-small, Places.place-named}
+use Rattle.laws.proofs.{Tests.{eq→eqb, ne→neqb, not-intro}, Accepts.true-T, Shortest.links-small, Places.place-named, Where.{fault-refused, opened-broken}}
 use Rattle.lookup.specs.{declared.Found.Found, RecordFound.found}
 use Rattle.lookup.proofs.FoundSlot.{nowhere-none, at-some, at-first}
 use Rattle.explanations.specs.Why.{Line, has-key, chain-told, unsigned-line, unheld-line, untrusted-line, chained, unsigned, held, despite, explained}
@@ -76,16 +75,16 @@ module _ (t : Trust) (x : Executable) where
 
 module _ (l : List ℕ) (n : ℕ) where
   broken : {f : Fault} → f ≡ fault l → f .rule ≢ 0 → 1 ≡ why-code l n
-  unfolding why-code accepted fault
-  broken e nz = takes _ _ _ (ap not (ne-eqb (ImageRules.broken l) 0 (λ z. nz (ap (λ f. f .rule) e ∙ z))))
+  unfolding why-code
+  broken e nz = takes _ _ _ (ap not (fault-refused l e nz))
 
   module _ (h : accepted l ≡ true) where
-    opened : not (accepted l) ≡ false
-    opened = ap not h
+    whole : not (accepted l) ≡ false
+    whole = ap not h
 
     no-id : n ≡ 0 → 3 ≡ why-code l n
     unfolding why-code
-    no-id z = skips _ _ _ opened (takes _ _ _ (ap (λ b. b || not (executable-known (decode l) n)) (eq-eqb n 0 z)))
+    no-id z = skips _ _ _ whole (takes _ _ _ (ap (λ b. b || not (executable-known (decode l) n)) (eq-eqb n 0 z)))
 
     module _ {f : Found} (q : f ≡ found (is-executable n) (decode l .executables)) (nz : n ≢ 0) where
       known-is : {b : Bool} → any (is-executable n) (decode l .executables) ≡ b → (eqb n 0 || not (executable-known (decode l) n)) ≡ not b
@@ -94,11 +93,11 @@ module _ (l : List ℕ) (n : ℕ) where
 
       unknown : f ≡ Found.Nowhere → 3 ≡ why-code l n
       unfolding why-code
-      unknown h = skips _ _ _ opened (takes _ _ _ (known-is (nowhere-none (is-executable n) (decode l .executables) q h)))
+      unknown h = skips _ _ _ whole (takes _ _ _ (known-is (nowhere-none (is-executable n) (decode l .executables) q h)))
 
       known : {i : ℕ} → f ≡ Found.At i → 0 ≡ why-code l n
       unfolding why-code
-      known h = skips _ _ _ opened (skips _ _ _ (known-is (at-some (is-executable n) (decode l .executables) q h)) ends)
+      known h = skips _ _ _ whole (skips _ _ _ (known-is (at-some (is-executable n) (decode l .executables) q h)) ends)
 
       named : {i : ℕ} → f ≡ Found.At i → {x : Executable} → x ≡ getD (decode l .executables) i no-executable
           → {out out′ : List ℕ} {k : ℕ} → Told (explained (decode l .trust) x) out k out′ → Told (explanation (decode l) n) out k out′
@@ -121,11 +120,12 @@ module _ (l : List ℕ) (n : ℕ) (out : List ℕ) where
   unfolding lines-of
   answered c e q w = record { answer = q ∙ ap answer-for e; told = w ∙ ap (λ c. with-lines out (lines-for c)) e }
 
-  pub told-broken : {f : Fault} → f ≡ fault l → f .rule ≢ 0 → {a : Answer} → a ≡ refused-at l
+  pub told-broken : {f : Fault} → f ≡ fault l → f .rule ≢ 0 → {a : Answer} → a ≡ opened l
       → {r : Why} → r ≡ record { code = a .code; rule = a .rule; offset = a .offset; lines = 0 } → Whole l n out r out
   unfolding refusal
   told-broken e nz t q =
-      answered 1 (broken l n e nz) (q ∙ ap (λ a. record { code = a .code; rule = a .rule; offset = a .offset; lines = 0 }) t) (sym (put-none out 0))
+      let told = t ∙ opened-broken l e nz in
+      answered 1 (broken l n e nz) (q ∙ ap (λ a. record { code = a .code; rule = a .rule; offset = a .offset; lines = 0 }) told) (sym (put-none out 0))
 
   module _ (ok : Accepted-image l) where
     refused-unknown : {r : Why} → 3 ≡ why-code l n → r ≡ record { code = 3; rule = 0; offset = 0; lines = 0 } → Whole l n out r out

@@ -274,7 +274,7 @@ fn explain_whole(s: &[u8], id: u16, lines: &mut [u8]) -> Why
 {
     let fault = opening::open(s);
     if fault.rule != 0 {
-        return refused(opening::refused_at(s, fault));
+        return refused(opening::told(s, fault));
     }
     explain_accepted(s, id, lines)
 }

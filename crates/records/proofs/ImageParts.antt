@@ -49,7 +49,7 @@ module _ (p : Phone) where
       ∙ ap₂ _+_ length-before-executables (length-joined executable-bytes executable-size length-executable (p .executables))
 
   -- the image, parted before a part
-  pub part-cards : encode p ≡ before-cards p ++ (joined card-bytes (p .cards) ++ (joined executable-bytes (p .executables) ++ joined row-bytes (p .table)))
+  part-cards : encode p ≡ before-cards p ++ (joined card-bytes (p .cards) ++ (joined executable-bytes (p .executables) ++ joined row-bytes (p .table)))
   unfolding encode before-cards
   part-cards = simp append-assoc
 

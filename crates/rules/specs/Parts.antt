@@ -1,9 +1,10 @@
--- What the image rules ask of one more record beside those below it, by which the lowest that breaks a rule is looked for. Definitions only.
+-- What the image rules ask of one more record beside those below it, by which the lowest that breaks a rule is looked for, and what code 13 asks where
+-- they hold. Definitions only.
 use Prim.Native.Nat.{ℕ}
 use mathlib.Core.{Bool.{Bool, not, _&&_, _||_}, List.List}
 use lib.Dec.{eqb}
 use Rattle.records.specs.{Phone.Seen, declared.Certificate.Certificate, declared.Card.Card, declared.Executable.Executable}
-use Rattle.rules.specs.Words.{all}
+use Rattle.rules.specs.{Words.all, Chains.valid-root}
 use Rattle.rules.specs.ImageRules.{card-fits, key-of-one-domain, card-owns, one-in-place, not-both, owned-by-card, one-manufacturer, executable-slot-fits}
 
 -- n is 0, or not m: ids, and numbers of cards
@@ -36,3 +37,11 @@ i5-with cards seen l c = owned-by-card cards seen c && all (i5-pair seen c) l
 -- of an executable x, beside those below it
 abbrev pub executable-with : ℕ → List Executable → Executable → Bool
 executable-with actions l x = executable-slot-fits actions x && all (λ y. apart (x .id) (y .id)) l
+
+-- ---- code 13
+
+-- of a root c that is present on an accepted phone, and is the operator's or the manufacturer's: x is a valid root of its domain and another one, in its
+-- place or on the card that is present
+abbrev pub near-rival : ℕ → ℕ → Certificate → Certificate → Bool
+near-rival clock card c x =
+    valid-root clock x && eqb (x .domain) (c .domain) && not (eqb (x .id) (c .id)) && (eqb (x .place) (c .place) || eqb (x .place) card)

@@ -3,7 +3,8 @@ use Prim.Native.Nat.{ℕ}
 use mathlib.Core.{Bool.{cond, _||_}, List.{List, [], _∷_}}
 use lib.Dec.{eqb}
 use Rattle.records.specs.{Layout.event-read, Phone.{Phone, decode, encode}, declared.Event.Event}
-use Rattle.rules.specs.{declared.Answer.Answer, Faults.{fault, fault-offset}, Chains.links, Codes.{executable-named, code}, Effects.changed}
+use Rattle.rules.specs.{declared.Answer.Answer, ImageRules.accepted, Faults.{fault, fault-offset}, Chains.links, Codes.{executable-named, code}}
+use Rattle.rules.specs.Effects.{changed}
 
 -- "Every code other than 0 gives domain 0 and links 0"
 abbrev pub refused : ℕ → Answer
@@ -20,6 +21,10 @@ refusal l c = cond (eqb c 1) (refused-at l) (refused c)
 -- what is told of code 0: a domain and a link count, or 0 and 0
 abbrev pub answer-done : ℕ → ℕ → Answer
 answer-done d n = record { code = 0; domain = d; links = n; rule = 0; offset = 0 }
+
+-- "opening an image answers 0 or 1": and where it is wrong
+unfoldable pub opened : List ℕ → Answer
+opened l = cond (accepted l) (answer-done 0 0) (refused-at l)
 
 -- "Domain and links are non-zero only for code 0 of verify and request: the executable's domain, and its link count if that domain is not 0": p is
 -- the phone after the event

@@ -27,13 +27,13 @@ unfolding computing
 clock-changed p s = refl
 
 module _ (l : List ℕ) (a : accepted l ≡ true) where
-  pub clock-done : (s : ℕ) → clock-of l ≤ s → code l (clock-bytes s) ≡ 0
+  clock-done : (s : ℕ) → clock-of l ≤ s → code l (clock-bytes s) ≡ 0
   clock-done s h =
       code-whole l (clock-bytes s) a (length-event (clock-event s))
       ∙ ap (code-of (decode l)) (event-read-bytes (clock-event s))
       ∙ clock-allowed (decode l) s h
 
-  pub clock-set : (s : ℕ) → clock-of l ≤ s → clock-of (step l (clock-bytes s) .image) ≡ s
+  clock-set : (s : ℕ) → clock-of l ≤ s → clock-of (step l (clock-bytes s) .image) ≡ s
   clock-set s h =
       ap (λ p. p .trust .seen .clock) (event-phone l (clock-bytes s) (clock-done s h))
       ∙ ap (λ e. changed e (decode l) .trust .seen .clock) (event-read-bytes (clock-event s))
@@ -41,7 +41,7 @@ module _ (l : List ℕ) (a : accepted l ≡ true) where
 
 -- ---- any other
 
-pub clock-kept : (l v : List ℕ) → be8 v 0 ≢ 1 → clock-of (step l v .image) ≡ clock-of l
+clock-kept : (l v : List ℕ) → be8 v 0 ≢ 1 → clock-of (step l v .image) ≡ clock-of l
 clock-kept l v k =
     by-test (eqb (code l v) 0)
     (λ t. event-frame l v (eqb→eq (code l v) 0 t) .clock k)
@@ -83,7 +83,7 @@ clock-at-event l x f = go (ltb (clock-of l) (x .second)) (λ t. t) (λ t. t)
         omega arith
 
 -- and behind it still
-pub clock-behind : (l : List ℕ) (x : Timed) → Fits l x → clock-of (run l (record-events (clock-of l) x)) ≡ x .second
+clock-behind : (l : List ℕ) (x : Timed) → Fits l x → clock-of (run l (record-events (clock-of l) x)) ≡ x .second
 unfolding run
 clock-behind l x f =
     ap clock-of (event-last (ltb (clock-of l) (x .second)))

@@ -21,7 +21,7 @@ all-of vs = joined (λ v. v) vs
 
 module _ (b : List ℕ) (n : ℕ) (v : List ℕ) where
   -- there is room for it
-  pub event-in : n < room b → put b (n * event-size) v ≡ with-event b n v
+  event-in : n < room b → put b (n * event-size) v ≡ with-event b n v
   event-in h = sym (ap (λ y. cond y (put b (n * event-size) v) b) (lt-ltb n (room b) h))
 
   -- there is none

@@ -71,7 +71,7 @@ module _ (t : List ℕ) (i : ℕ) where
   second-there = ap (be32 t) (sym (add-zero (timed-start + i * timed-size)))
 
   -- its event starts 8 bytes behind, with its kind
-  pub kind-there : be8 t (timed-start + i * timed-size + 8) ≡ be8 (timed-at t i .event) 0
+  kind-there : be8 t (timed-start + i * timed-size + 8) ≡ be8 (timed-at t i .event) 0
   unfolding be
   kind-there =
       let a = timed-start + i * timed-size + 8 in

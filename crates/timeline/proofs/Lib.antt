@@ -2,6 +2,6 @@ pub mod Framed
 pub mod EventsPlaced
 pub mod UnrollsTold
 pub mod Clock
-pub mod Codes
-pub mod Lengths
+pub mod TimelineCodes
+pub mod EventCounts
 pub mod Theorems

@@ -7,7 +7,7 @@ use Rattle.records.specs.Layout.{event-bytes}
 use Rattle.rules.specs.{ImageRules.accepted, Codes.code, Step.{run, answers}}
 use Rattle.timeline.specs.Timeline.{Timed, timed, timeline-fits, clock-event, clock-of, timeline-code, timeline-events}
 use Rattle.timeline.specs.Running.{in-turn, met, met-by-event}
-use Rattle.timeline.proofs.Codes as Codes
+use Rattle.timeline.proofs.TimelineCodes as Codes
 use Rattle.timeline.proofs.Clock as Clock
 
 module _ (l t : List ℕ) where

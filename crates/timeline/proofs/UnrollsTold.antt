@@ -1,14 +1,15 @@
 -- What is told of a timeline: where the image is broken, where the timeline does not fit it, and where it does. Assumes nothing.
 use Prim.Native.Nat.{ℕ}
-use mathlib.Core.{Bool.{Bool, true, false, not, cond}, List.{List, []}, Logic._≢_, Path.{_≡_, refl, sym, ap, ap₂, _∙_}}
+use mathlib.Core.{Bool.{Bool, true, false, not}, List.{List, []}, Logic._≢_, Path.{_≡_, refl, sym, ap, ap₂, _∙_}}
 use native.Mathlib.Omega.{arith}
 use borrow.Author.Tests.{eq-eqb, ne-eqb, not-true, not-false}
 use lib.{ListN.length, Seq.take-nil}
 use Rattle.octets.specs.Octets.{put}
 use Rattle.octets.proofs.ByteLaws.{put-none}
 use Rattle.records.specs.{Phone.joined, Frame.Framed}
-use Rattle.rules.specs.{declared.Answer.Answer, declared.Fault.Fault, Words.first, ImageRules.{broken, accepted}, Faults.fault, Step.{refused, refused-at}}
+use Rattle.rules.specs.{declared.Answer.Answer, declared.Fault.Fault, Words.first, ImageRules.accepted, Step.opened}
 use Rattle.rules.specs.AcceptedImage.{Accepted-image}
+use Rattle.laws.proofs.Where.{opened-whole, fault-refused}
 use Rattle.opening.specs.Opened.{Opened}
 use Rattle.timeline.specs.declared.Unrolled.{Unrolled}
 use Rattle.timeline.specs.Timeline.{timeline-framed, timed, timeline-fits, clock-of, unrolled, timeline-code, timeline-events}
@@ -28,12 +29,12 @@ module _ (l t : List ℕ) where
   code-broken a = rw a
 
   -- of a timeline that does not fit it
-  pub code-unfit : accepted l ≡ true → timeline-fits (clock-of l) t ≡ false → timeline-code l t ≡ 19
+  code-unfit : accepted l ≡ true → timeline-fits (clock-of l) t ≡ false → timeline-code l t ≡ 19
   unfolding timeline-code first
   code-unfit a h = rw (a, h)
 
   -- of one that does
-  pub code-fits : accepted l ≡ true → timeline-fits (clock-of l) t ≡ true → timeline-code l t ≡ 0
+  code-fits : accepted l ≡ true → timeline-fits (clock-of l) t ≡ true → timeline-code l t ≡ 0
   unfolding timeline-code first
   code-fits a h = rw (a, h)
 
@@ -47,25 +48,18 @@ module _ (l t : List ℕ) where
   unfolding timeline-events
   events-all h = rw (eq-eqb (timeline-code l t) 0 h)
 
--- what is told of an image, by whether it is accepted, with a code and the events
-abbrev told : List ℕ → Bool → ℕ → List (List ℕ) → Unrolled
-told l y c vs =
-    let a = cond y (refused 0) (refused-at l) in
-    record { code = c; rule = a .rule; offset = a .offset; count = length vs }
+-- what opening tells, with a code and the events
+abbrev told : Answer → ℕ → List (List ℕ) → Unrolled
+told a c vs = record { code = c; rule = a .rule; offset = a .offset; count = length vs }
 
 -- which is what `unroll` tells
-told-so : (l t : List ℕ) {y : Bool} {c : ℕ} {vs : List (List ℕ)} → accepted l ≡ y → timeline-code l t ≡ c → timeline-events l t ≡ vs
-    → told l y c vs ≡ unroll l t
+told-so : (l t : List ℕ) {a : Answer} {c : ℕ} {vs : List (List ℕ)} → opened l ≡ a → timeline-code l t ≡ c → timeline-events l t ≡ vs
+    → told a c vs ≡ unroll l t
 unfolding unroll
-told-so l t {y} a c e = sym (ap (λ y. told l y (timeline-code l t) (timeline-events l t)) a ∙ ap₂ (told l y) c e)
+told-so l t {a} o c e = sym (ap (λ a. told a (timeline-code l t) (timeline-events l t)) o ∙ ap₂ (told a) c e)
 
 -- f is what opening the image tells
 module _ (l : List ℕ) {f : Fault} (o : Opened l f) where
-  -- a fault: it is not accepted
-  pub opened-refused : f .rule ≢ 0 → accepted l ≡ false
-  unfolding accepted fault
-  opened-refused h = ne-eqb (broken l) 0 (λ z. h (ap (λ f. f .rule) (o .answer) ∙ z))
-
   -- none: it has its frame
   pub opened-framed : f .rule ≡ 0 → Framed l
   opened-framed z = o .promise z .framed
@@ -78,13 +72,12 @@ framed-fit k t {y} fits n = fits-framed k t (sym fits ∙ not-false y n)
 
 module _ (l t b : List ℕ) {f : Fault} (o : Opened l f) where
   -- the image is broken
-  pub unrolls-broken : f .rule ≢ 0 → (a : Answer) → a ≡ refused-at l → Unrolls l t b (record { code = 1; rule = a .rule; offset = a .offset; count = 0 }) b
+  pub unrolls-broken : f .rule ≢ 0 → (a : Answer) → a ≡ opened l → Unrolls l t b (record { code = 1; rule = a .rule; offset = a .offset; count = 0 }) b
   unrolls-broken h a q =
-      let n = opened-refused l o h in
-      let c = code-broken l t n in
+      let c = code-broken l t (fault-refused l (o .answer) h) in
       let e = events-none l t (λ z. omega arith) in
       record {
-        answer = ap (λ (a : Answer). record { code = 1; rule = a .rule; offset = a .offset; count = 0 }) q ∙ told-so l t n c e;
+        answer = told-so l t (sym q) c e;
         events = no-events b ∙ ap (with-events b) (sym e);
         promise = λ z. absurd (omega arith);
       }
@@ -104,7 +97,7 @@ module _ (l t b : List ℕ) {f : Fault} (o : Opened l f) where
         let c = code-unfit l t (image .accepted) (fits-clock ∙ not-true y n) in
         let e = events-none l t (λ z. omega arith) in
         record {
-          answer = told-so l t (image .accepted) c e;
+          answer = told-so l t (opened-whole l (image .accepted)) c e;
           events = no-events b ∙ ap (with-events b) (sym e);
           promise = λ z. absurd (omega arith);
         }
@@ -117,7 +110,7 @@ module _ (l t b : List ℕ) {f : Fault} (o : Opened l f) where
         let e = events-all l t c in
         let all : unrolled k (timed t) ≡ timeline-events l t = ap (λ k. unrolled k (timed t)) clock ∙ sym e in
         record {
-          answer = ap (λ n. record { code = 0; rule = 0; offset = 0; count = n }) (q ∙ ap length all) ∙ told-so l t (image .accepted) c refl;
+          answer = ap (λ n. record { code = 0; rule = 0; offset = 0; count = n }) (q ∙ ap length all) ∙ told-so l t (opened-whole l (image .accepted)) c refl;
           events = p ∙ ap (with-events b) all;
           promise = λ z. image;
         }

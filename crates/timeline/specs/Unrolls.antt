@@ -4,7 +4,7 @@ use mathlib.Core.{Bool.cond, List.{List, [], _∷_}, Path._≡_}
 use lib.{Dec.ltb, ListN.{length, take}}
 use Rattle.octets.specs.Octets.{put}
 use Rattle.records.specs.{Sizes.event-size, Phone.joined}
-use Rattle.rules.specs.{ImageRules.accepted, Step.{refused, refused-at}, AcceptedImage.Accepted-image}
+use Rattle.rules.specs.{Step.opened, AcceptedImage.Accepted-image}
 use Rattle.timeline.specs.{Timeline.{timeline-code, timeline-events}, declared.Unrolled.Unrolled}
 
 -- how many whole events a buffer has room for
@@ -27,7 +27,7 @@ with-events b vs = put b 0 (joined (λ v. v) (take (room b) vs))
 -- code 0, 1 or 19; for 1 the broken rule and where; and how many events there are
 unfoldable pub unroll : List ℕ → List ℕ → Unrolled
 unroll l t =
-    let told = cond (accepted l) (refused 0) (refused-at l) in
+    let told = opened l in
     record { code = timeline-code l t; rule = told .rule; offset = told .offset; count = length (timeline-events l t) }
 
 pub record Unrolls (l t b : List ℕ) (r : Unrolled) (b′ : List ℕ) : Type 0 where

@@ -170,7 +170,7 @@ pub fn unroll(s: &[u8], t: &[u8], events: &mut [u8]) -> Unrolled
 {
     let fault = opening::open(s);
     if fault.rule != 0 {
-        let told = opening::refused_at(s, fault);
+        let told = opening::told(s, fault);
         return Unrolled {
             code: 1,
             rule: told.rule,

@@ -37,13 +37,10 @@ one-image-executable-slots κs a r r′ e e′ x y = returned (x .0) (y .0)
 pub one-image-action-count : One-result Rattle.records.proofs.image.action_count.Reads.Learnt
 one-image-action-count κs a r r′ e e′ x y = returned (x .0) (y .0)
 
--- ==== opening: the fault, and what none promises; the answers that tell it
+-- ==== opening: the fault, and what none promises; the answer that tells it
 
 pub one-opening-open : One-result Rattle.opening.proofs.open.Reads.Learnt
 one-opening-open κs a r r′ e e′ x y = returned (x .answer) (y .answer)
-
-pub one-opening-refused-at : One-result Rattle.opening.proofs.refused_at.Reads.Learnt
-one-opening-refused-at κs a r r′ e e′ = returned
 
 pub one-opening-told : One-result Rattle.opening.proofs.told.Reads.Learnt
 one-opening-told κs a r r′ e e′ = returned

@@ -19,7 +19,7 @@ pub about-put : (l : List ℕ) (at : ℕ) (before : List ℕ) (n : ℕ) (behind 
 about-put l at before n behind h a b c =
     then l at (before ++ decimal n) behind h (then l at before (decimal n) h a b) c
 
-pub about-small : (before : List ℕ) (n : ℕ) (behind : List ℕ) → length (about before n behind) ≤ length before + most-digits + length behind
+about-small : (before : List ℕ) (n : ℕ) (behind : List ℕ) → length (about before n behind) ≤ length before + most-digits + length behind
 about-small before n behind = let h = decimal-small n in simp length-append (omega arith)
 
 -- where it ends at the latest

@@ -8,7 +8,7 @@ use Rattle.bench.proofs.lesson.Statement.{statement}
 use Rattle.bench.proofs.lesson.Tie as tie
 
 -- the states behind the answer and behind the buffer, from that behind the refusal
-abbrev answered : tie.After-put-refusal → tie.After-refused-at
+abbrev answered : tie.After-put-refusal → tie.After-told
 answered c = c .before .before
 
 abbrev buffered : tie.After-put-refusal → tie.After-large-buffer
@@ -16,7 +16,7 @@ buffered c = answered c .before .before .before .before .before .before
 
 array-share-prefix-out : tie.Need-array-share-prefix-out
 array-share-prefix-out c =
-    let a = answered (c .before) .refused-at .result in
+    let a = answered (c .before) .told .result in
     let small = refusal-small (a .rule) (a .offset) in
     let size = buffered (c .before) .large-buffer .ensures in
     start-within _ (image-refused (a .rule) (a .offset)) (omega (arith, small, size)) (c .before .put-refusal .ensures)

@@ -3,7 +3,7 @@ use borrow.Author.Needs.{needs}
 use Rattle.events.proofs.step.Tie as tie
 
 returns : tie.Need-returns
-returns c = broken-stepped _ _ _ (c .before .before .before .before .«open» .ensures .answer) (c .before .before .if1 .taken) _ (c .refused-at .ensures)
+returns c = broken-stepped _ _ _ (c .before .before .before .before .«open» .ensures .answer) (c .before .before .if1 .taken) _ (c .told .ensures)
 
 step-accepted-requires : tie.Need-step-accepted-requires
 step-accepted-requires c κs = c .before .before .before .«open» .ensures .promise (c .before .if1 .left)

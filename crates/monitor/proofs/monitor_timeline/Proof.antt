@@ -1,4 +1,4 @@
-use Rattle.timeline.proofs.Lengths.{count-few}
+use Rattle.timeline.proofs.EventCounts.{count-few}
 use Rattle.monitor.proofs.{TimelineTold.unrolled-for, monitor_timeline.Statement.statement}
 use borrow.Author.Needs.{needs}
 use Rattle.monitor.proofs.monitor_timeline.Tie as tie

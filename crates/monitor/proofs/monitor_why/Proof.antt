@@ -1,4 +1,4 @@
-use Rattle.monitor.proofs.{AnswerLines.{few-told, asked}, monitor_why.Statement.statement}
+use Rattle.monitor.proofs.{WhyTold.{few-told, asked}, monitor_why.Statement.statement}
 use borrow.Author.Needs.{needs}
 use Rattle.monitor.proofs.monitor_why.Tie as tie
 

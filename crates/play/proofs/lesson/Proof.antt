@@ -4,7 +4,7 @@ use lib.Seq.{length-take-le}
 use borrow.Author.Needs.{needs}
 use Rattle.stream.specs.Refusal.{image-refused}
 use Rattle.stream.proofs.JoinedTexts.{refusal-small, start-within}
-use Rattle.timeline.proofs.Lengths.{count-within}
+use Rattle.timeline.proofs.EventCounts.{count-within}
 use Rattle.play.proofs.lesson.Statement.{statement}
 use Rattle.play.proofs.lesson.Tie as tie
 

@@ -4,9 +4,8 @@ use native.Mathlib.Omega.{arith}
 use borrow.Author.Needs.{needs}
 use lib.ListN.{length, drop}
 use Rattle.records.specs.Phone.{decode, no-certificate}
-use Rattle.rules.specs.Words.{any}
+use Rattle.rules.specs.{Words.any, Parts.near-rival}
 use Rattle.laws.proofs.Loops.{any-stops, any-goes-on, any-fails}
-use Rattle.certificates.specs.MarkingRows.{near-rival}
 use Rattle.certificates.proofs.decisions.has_rival.Statement.{statement}
 use Rattle.certificates.proofs.decisions.has_rival.Tie as tie
 

@@ -5,7 +5,7 @@ use Rattle.records.specs.{Phone.{decode, certificate-at}, declared.Certificate.
 use Rattle.rules.specs.{Words.{Check, _⇒_, first}, Chains.in-date}
 use Rattle.handling.proofs.{CodeRows.{none, here, next, gives, says}, PlanLaws.{stands, decides}}
 use Rattle.certificates.specs.MarkingRows.{validity-rows}
-use Rattle.certificates.proofs.{Rivals.{read-fits, read-there}, decisions.judge_marking.Statement.statement}
+use Rattle.certificates.proofs.{NamedCertificate.{read-fits, read-there}, decisions.judge_marking.Statement.statement}
 use Rattle.certificates.proofs.decisions.judge_marking.Tie as tie
 
 abbrev start : tie.After-in-date → tie.Start

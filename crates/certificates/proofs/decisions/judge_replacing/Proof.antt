@@ -6,7 +6,7 @@ use Rattle.rules.specs.{Words.{any, Check, _⇒_, first}, Codes.{in-another, ma
 use Rattle.handling.proofs.{CodeRows.{Gives, none, here, next, rest, gives, says, says-below, says-not-below}, PlanLaws.{stands, decides}}
 use Rattle.certificates.specs.MarkingRows.{validity-rows, replacing-rows}
 use borrow.Author.Needs.{needs}
-use Rattle.certificates.proofs.{Rivals.{read-fits, read-there}, decisions.judge_replacing.Statement.statement}
+use Rattle.certificates.proofs.{NamedCertificate.{read-fits, read-there}, decisions.judge_replacing.Statement.statement}
 use Rattle.certificates.proofs.decisions.judge_replacing.Tie as tie
 
 abbrev start : tie.After-certificate → tie.Start

@@ -3,10 +3,11 @@ use mathlib.Core.{Bool.{not, _&&_}, Path.{_≡_, sym, ap, ap₂, _∙_}}
 use borrow.{Author.Needs.needs, Author.Tests.{eq-eqb, ne-eqb}}
 use lib.{Dec.eqb, ListN.drop}
 use Rattle.records.specs.Phone.{decode}
-use Rattle.rules.specs.{Words.{any, first}, Codes.rival}
+use Rattle.rules.specs.{Words.{any, first}, Codes.rival, Parts.near-rival}
+use Rattle.laws.proofs.Rivals.{near-rivals}
 use Rattle.handling.proofs.CodeRows.{Gives, none, here, next, gives}
-use Rattle.certificates.specs.MarkingRows.{near-rival, validity-rows}
-use Rattle.certificates.proofs.{Rivals.near-rivals, decisions.judge_validity.Statement.statement}
+use Rattle.certificates.specs.MarkingRows.{validity-rows}
+use Rattle.certificates.proofs.decisions.judge_validity.Statement.{statement}
 use Rattle.certificates.proofs.decisions.judge_validity.Tie as tie
 
 abbrev start : tie.Else1 → tie.Start

@@ -1,5 +1,5 @@
 use Rattle.records.specs.Phone.{decode}
-use Rattle.certificates.proofs.{Owners.{other-card, not-on-card}, decisions.of_other_card.Statement.statement}
+use Rattle.certificates.proofs.{OtherOwners.{other-card, not-on-card}, decisions.of_other_card.Statement.statement}
 use borrow.Author.Needs.{needs}
 use Rattle.certificates.proofs.decisions.of_other_card.Tie as tie
 

@@ -1,5 +1,5 @@
 use Rattle.records.specs.Phone.{decode}
-use Rattle.certificates.proofs.{Owners.{other-operator, no-operator}, decisions.of_other_operator.Statement.statement}
+use Rattle.certificates.proofs.{OtherOwners.{other-operator, no-operator}, decisions.of_other_operator.Statement.statement}
 use borrow.Author.Needs.{needs}
 use Rattle.certificates.proofs.decisions.of_other_operator.Tie as tie
 

@@ -8,9 +8,8 @@ use Rattle.octets.specs.Octets.{put}
 use Rattle.octets.proofs.ByteLaws.{put-none, getD-put-after}
 use Rattle.records.specs.Phone.{decode, joined}
 use Rattle.records.proofs.Joined.{length-joined, read-joined}
-use Rattle.rules.specs.{declared.Answer.Answer, ImageRules.{accepted, «open»}, Faults.{fault, fault-offset}, Step.refusal}
+use Rattle.rules.specs.{declared.Answer.Answer, ImageRules.{accepted, «open»}, Faults.{fault, fault-offset}, Step.{opened, refusal}}
 use Rattle.laws.proofs.Where.{accepted-no-fault, rule-known, offset-small}
-use Rattle.opening.specs.Opened.{opened}
 use Rattle.opening.proofs.Offsets.{opened-told}
 use Rattle.explanations.specs.Why.{Line, line, explanation}
 use Rattle.reasons.specs.{declared.Why.Why, Lines.{line-size, line-bytes, most-lines, with-lines, why-code, lines-of, why, Explained}}

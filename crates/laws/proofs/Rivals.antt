@@ -5,10 +5,9 @@ use mathlib.Core.Path.{_≡_, refl, sym, subst, ap, ap₂, _∙_}
 use native.Mathlib.Omega.{arith}
 use borrow.Author.Tests.{eq-eqb, ne-eqb}
 use lib.Dec.{T, eqb, eqb→eq}
-use Rattle.records.specs.{Phone.{Seen, Phone, decode, certificate-at, no-certificate}, declared.Certificate.Certificate}
-use Rattle.rules.specs.{Words.any, Chains.{present, valid-root, in-date}, Codes.rival, ImageRules.slot-fits, AcceptedImage.Accepted-image}
-use Rattle.laws.proofs.{Tests.{and-l, or-cases, by-test, neqb→ne}, Accepts.{true-T, accepted-out}, Slots.mem-at, Fits.{slot-out, slot-in}, Accepted.Occupied}
-use Rattle.certificates.specs.{Decisions.Present-at, MarkingRows.near-rival}
+use Rattle.records.specs.{Phone.{Seen, decode, no-certificate}, declared.Certificate.Certificate}
+use Rattle.rules.specs.{Words.any, Chains.{present, valid-root, in-date}, Codes.rival, Parts.near-rival, ImageRules.slot-fits, AcceptedImage.Accepted-image}
+use Rattle.laws.proofs.{Tests.{and-l, or-cases, by-test, neqb→ne}, Accepts.{true-T, accepted-out}, Fits.slot-out, Accepted.Occupied}
 
 -- v: x is a valid root; d: of the same domain; a: the same one
 regrouped : (a v d b n m : Bool) → (T v → T d → n ≡ (b && m)) → (not a && v && d && n) ≡ (b && (v && d && not a && m))
@@ -129,13 +128,3 @@ near-rivals {l} a c f k there =
     let held = accepted-out l (a .accepted) .1 .trust .held in
     any-with (not (eqb (c .domain) 3)) (rival (p .trust .seen) c) (near-rival (p .trust .seen .clock) (p .trust .seen .card) c) (p .trust .certificates)
     (λ x m. same-rival (p .trust .seen) c x (slot-out c f) k there (held .slots x m))
-
--- ---- a record that was read at a slot with a certificate that is present
-
-pub read-fits : {l : List ℕ} {i : ℕ} {c : Certificate} → Accepted-image l → Present-at (decode l) i → c ≡ certificate-at (decode l) i → T (slot-fits c)
-read-fits {l} {i} a h q =
-    let held = accepted-out l (a .accepted) .1 .trust .held in
-    subst (λ x. T (slot-fits x)) (sym q) (slot-in _ (held .slots _ (mem-at (decode l .trust .certificates) i no-certificate (h .within))))
-
-pub read-there : {p : Phone} {i : ℕ} {c : Certificate} → Present-at p i → c ≡ certificate-at p i → present (p .trust .seen) c ≡ true
-read-there {p} h q = ap (present (p .trust .seen)) q ∙ h .there

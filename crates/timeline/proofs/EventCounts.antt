@@ -3,16 +3,15 @@ use Prim.Native.Nat.{ℕ, zero, suc, _*_, _≤_, _<_}
 use mathlib.Core.{Bool.true, List.{List, [], _∷_, _++_}, Path.{_≡_, refl, sym, ap, subst, _∙_}}
 use native.Mathlib.Omega.{arith}
 use lib.{Dec.{eqb, eqb→eq}, ListN.{length, take, length-append, length-take}}
-use Rattle.octets.proofs.ByteLaws.{length-put}
 use Rattle.records.specs.{Sizes.event-size, Phone.{joined, tabulate}}
 use Rattle.records.proofs.Joined.{length-tabulate}
 use Rattle.laws.proofs.Tests.{by-test, neqb→ne}
 use Rattle.timeline.specs.declared.Unrolled.{Unrolled}
 use Rattle.timeline.specs.Timeline.{timeline-framed, timed-count, Timed, timed-at, timed, record-events, unrolled, clock-of, timeline-code}
 use Rattle.timeline.specs.Timeline.{timeline-events, most-events}
-use Rattle.timeline.specs.Unrolls.{room, with-events, unroll, Unrolls}
+use Rattle.timeline.specs.Unrolls.{room, unroll, Unrolls}
 use Rattle.timeline.proofs.{Framed.{framed-few, event-whole, fits-framed}, EventsPlaced.{Whole, clock-whole, clock-few}}
-use Rattle.timeline.proofs.{UnrollsTold.{events-none, events-all}, Codes.zero-exact}
+use Rattle.timeline.proofs.{UnrollsTold.{events-none, events-all}, TimelineCodes.zero-exact}
 
 -- ---- whole events
 
@@ -42,10 +41,6 @@ module _ (b : List ℕ) (vs : List (List ℕ)) (f : Whole vs) where
       let size = length-whole (take (room b) vs) (whole-take (room b) vs f) in
       let few = length-take (room b) vs in
       omega arith
-
-  -- which is as long as before
-  pub length-placed : length (with-events b vs) ≡ length b
-  length-placed = let within = placed-within in length-put b 0 (joined (λ v. v) (take (room b) vs)) (omega arith)
 
 -- ---- those of a timeline
 
