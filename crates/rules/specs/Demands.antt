@@ -1,4 +1,4 @@
--- What the three demands speak of: grants, and the events that withdraw and that give. Definitions only.
+-- What the three demands speak of: grants, withdrawing events and giving ones. Definitions only.
 use Prim.Native.Nat.{ℕ}
 use mathlib.Core.{Bool.{Bool, not, _&&_, _||_}, List.List}
 use lib.Dec.{eqb}

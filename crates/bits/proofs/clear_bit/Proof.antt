@@ -2,8 +2,6 @@ use borrow.Author.Needs.{needs}
 use Rattle.bits.proofs.{BitLaws.and-put, clear_bit.Statement.statement}
 use Rattle.bits.proofs.clear_bit.Tie as tie
 
--- src/lib.rt:27:11
--- src/lib.rt:23:1
 returns : tie.Need-returns
 returns c = and-put 32 (c .args .w) (c .args .k) (c .fits .w .fits) (c .pre)
 

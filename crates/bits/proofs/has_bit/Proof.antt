@@ -6,8 +6,6 @@ use Rattle.bits.specs.Bits.{digit}
 use Rattle.bits.proofs.has_bit.Statement.{statement}
 use Rattle.bits.proofs.has_bit.Tie as tie
 
--- src/lib.rt:11:6
--- src/lib.rt:7:1
 returns : tie.Need-returns
 unfolding digit
 returns c = ap (λ (x : ℕ). eqb x 1) (and-mask (c .args .w / 2 ^ c .args .k) 1)

@@ -2,8 +2,6 @@ use borrow.Author.Needs.{needs}
 use Rattle.bits.proofs.{BitLaws.or-put, set_bit.Statement.statement}
 use Rattle.bits.proofs.set_bit.Tie as tie
 
--- src/lib.rt:19:9
--- src/lib.rt:15:1
 returns : tie.Need-returns
 returns c = or-put 32 (c .args .w) (c .args .k) (c .pre)
 

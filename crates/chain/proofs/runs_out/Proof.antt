@@ -33,7 +33,7 @@ returns c =
     let a = z .before .before .before .before .args in
     any-stops no-certificate _ (z .loop .i) (runs-out (decode (a .s .now) .trust .seen .clock) (a .t)) _ (z .loop .inv .3) (omega arith)
     (c .before .before .certificate .ensures)
-    (cc (c .before .is-running-out .ensures, z .loop .inv .2, c .if1 .taken))
+    (rw⁻¹ (z .loop .inv .2, c .before .is-running-out .ensures) (c .if1 .taken))
 
 loop-again : tie.Need-loop-again Inv-loop μ-loop
 loop-again c =
@@ -41,7 +41,7 @@ loop-again c =
     let a = z .before .before .before .before .args in
     let f = runs-out (decode (a .s .now) .trust .seen .clock) (a .t) in
     let x = c .before .before .certificate in
-    let stays : f (x .result) ≡ false = cc (c .before .is-running-out .ensures, z .loop .inv .2, c .if1 .left) in
+    let stays : f (x .result) ≡ false = rw⁻¹ (z .loop .inv .2, c .before .is-running-out .ensures) (c .if1 .left) in
     (search needs, search needs, search needs, any-goes-on no-certificate _ (z .loop .i) f _ (z .loop .inv .3) (omega arith) (x .ensures) stays)
 
 returns-2 : tie.Need-returns-2 Inv-loop μ-loop

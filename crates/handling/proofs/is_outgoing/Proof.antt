@@ -5,7 +5,7 @@ use Rattle.handling.proofs.is_outgoing.Tie as tie
 
 returns : tie.Need-returns
 unfolding outgoing
-returns c = cc
+returns c = rw (c .before .is-phone-operator-root .ensures)
 
 pub is-outgoing-spec : {M : Type 1} → statement M
 is-outgoing-spec = tie.close (tie.spec (λ c κs. search needs) returns)

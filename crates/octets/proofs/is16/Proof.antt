@@ -7,7 +7,7 @@ returns : tie.Need-returns
 returns c = low-differs _ _ _ _ (c .before .read8 .ensures) (omega arith) (c .if1 .taken)
 
 returns-2 : tie.Need-returns-2
-returns-2 c = cc
+returns-2 c = rw (c .read16 .ensures)
 
 pub is16-spec : {M : Type 1} → statement M
 is16-spec =

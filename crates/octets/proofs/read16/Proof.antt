@@ -3,14 +3,6 @@ use borrow.Author.Needs.{needs}
 use Rattle.octets.proofs.read16.Statement.{statement}
 use Rattle.octets.proofs.read16.Tie as tie
 
--- src/lib.rt:32:12
--- src/lib.rt:32:5
--- src/lib.rt:32:5
--- src/lib.rt:32:35
--- src/lib.rt:32:33
--- src/lib.rt:32:26
--- src/lib.rt:32:5
--- src/lib.rt:28:1
 returns : tie.Need-returns
 unfolding be
 returns c = search needs

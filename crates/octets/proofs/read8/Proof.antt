@@ -3,8 +3,6 @@ use borrow.Author.Needs.{needs}
 use Rattle.octets.proofs.read8.Statement.{statement}
 use Rattle.octets.proofs.read8.Tie as tie
 
--- src/lib.rt:24:5
--- src/lib.rt:20:1
 returns : tie.Need-returns
 unfolding be
 returns c = search needs

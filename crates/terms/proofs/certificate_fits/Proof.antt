@@ -21,12 +21,13 @@ of-others c k = simp (ne-eqb (c .kind) 2 k, and-true)
 returns : tie.Need-returns
 returns c =
     let k = c .before .before in
-    cc (of-recovery (k .before .before .args .c) (k .if1 .taken))
+    rw (c .recovery-fits .ensures, c .before .certificate-ranges .ensures) (of-recovery (k .before .before .args .c) (k .if1 .taken))
 
 returns-2 : tie.Need-returns-2
 returns-2 c =
     let k = c .before .before .before .before .before in
-    cc (of-others (k .before .before .args .c) (k .if1 .left))
+    rw (c .issued-fits .ensures, c .before .before .root-fits .ensures, c .before .before .before .before .certificate-ranges2 .ensures)
+    (of-others (k .before .before .args .c) (k .if1 .left))
 
 pub certificate-fits-spec : {M : Type 1} → statement M
 certificate-fits-spec =

@@ -5,7 +5,7 @@ use Rattle.terms.proofs.is_present.Tie as tie
 
 returns : tie.Need-returns
 unfolding present
-returns c = cc
+returns c = rw (c .before .card-present .ensures)
 
 pub is-present-spec : {M : Type 1} → statement M
 is-present-spec = tie.close (tie.spec (λ c κs. search needs) returns)

@@ -19,7 +19,7 @@ returns c =
 
 returns-2 : tie.Need-returns-2
 unfolding key-of-one-domain _implies_
-returns-2 c = cc
+returns-2 c = refl
 
 pub key-of-one-domain-spec : {M : Type 1} → statement M
 key-of-one-domain-spec = tie.close (tie.spec returns returns-2)

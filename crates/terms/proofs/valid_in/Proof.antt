@@ -5,7 +5,7 @@ use Rattle.terms.proofs.valid_in.Tie as tie
 
 returns : tie.Need-returns
 unfolding valid-in
-returns c = cc
+returns c = rw (c .before .valid-root .ensures)
 
 pub valid-in-spec : {M : Type 1} → statement M
 valid-in-spec = tie.close (tie.spec (λ c κs. search needs) returns)

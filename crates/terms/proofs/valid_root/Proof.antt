@@ -5,7 +5,7 @@ use Rattle.terms.proofs.valid_root.Tie as tie
 
 returns : tie.Need-returns
 unfolding valid-root
-returns c = cc
+returns c = rw (c .in-date .ensures)
 
 pub valid-root-spec : {M : Type 1} → statement M
 valid-root-spec = tie.close (tie.spec (λ c κs. search needs) returns)

@@ -5,7 +5,7 @@ use Rattle.chain.proofs.search.trusted_root.Tie as tie
 
 returns : tie.Need-returns
 unfolding trusted-root
-returns c = cc
+returns c = rw (c .is-present .ensures, c .before .before .valid-root .ensures, c .before .before .before .clock .ensures)
 
 pub trusted-root-spec : {M : Type 1} → statement M
 trusted-root-spec =

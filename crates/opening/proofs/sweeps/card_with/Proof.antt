@@ -3,7 +3,7 @@ use Rattle.opening.proofs.sweeps.card_with.Statement.{statement}
 use Rattle.opening.proofs.sweeps.card_with.Tie as tie
 
 returns : tie.Need-returns
-returns c = cc
+returns c = rw (c .number-apart .ensures, c .before .card-fits .ensures, c .before .before .card .ensures)
 
 pub card-with-spec : {M : Type 1} → statement M
 card-with-spec =

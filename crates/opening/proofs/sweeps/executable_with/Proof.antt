@@ -3,7 +3,7 @@ use Rattle.opening.proofs.sweeps.executable_with.Statement.{statement}
 use Rattle.opening.proofs.sweeps.executable_with.Tie as tie
 
 returns : tie.Need-returns
-returns c = cc
+returns c = rw (c .executable-apart .ensures, c .before .executable-slot-fits .ensures, c .before .before .executable .ensures)
 
 pub executable-with-spec : {M : Type 1} → statement M
 executable-with-spec =

@@ -3,7 +3,7 @@ use Rattle.opening.proofs.sweeps.i4_with.Statement.{statement}
 use Rattle.opening.proofs.sweeps.i4_with.Tie as tie
 
 returns : tie.Need-returns
-returns c = cc
+returns c = rw (c .key-apart .ensures, c .before .id-apart .ensures, c .before .before .card-owns .ensures, c .before .before .before .certificate .ensures)
 
 pub i4-with-spec : {M : Type 1} → statement M
 i4-with-spec =

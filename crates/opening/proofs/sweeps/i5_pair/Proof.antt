@@ -3,7 +3,9 @@ use Rattle.opening.proofs.sweeps.i5_pair.Statement.{statement}
 use Rattle.opening.proofs.sweeps.i5_pair.Tie as tie
 
 returns : tie.Need-returns
-returns c = cc
+returns c =
+    let k = c .before .before in
+    rw (c .one-manufacturer .ensures, c .before .neither-way .ensures, k .one-in-place .ensures, k .before .clock .ensures)
 
 pub i5-pair-spec : {M : Type 1} → statement M
 i5-pair-spec =

@@ -20,15 +20,19 @@ loop-holds c = (search needs, search needs, (i7-grows (decode _)) .none)
 
 returns : tie.Need-returns Inv-loop μ-loop
 returns c =
-    let v = c .before .before .before .loop in
-    breaks-here (i7-grows (decode _)) no-executable _ (v .i) {b = c .before .executable-with .result} (v .inv .2) (omega arith) refl (cc) (c .if1 .taken)
+    let k = c .before .before .before in
+    let v = k .loop in
+    breaks-here (i7-grows (decode _)) no-executable _ (v .i) {b = c .before .executable-with .result} (v .inv .2) (omega arith) refl
+    (rw⁻¹ (k .before .before .action-count .ensures .0) (c .before .executable-with .ensures)) (c .if1 .taken)
 
 loop-again : tie.Need-loop-again Inv-loop μ-loop
 loop-again c =
-    let v = c .before .before .before .loop in (
+    let k = c .before .before .before in
+    let v = k .loop in (
       search needs,
       search needs,
-      keeps-on (i7-grows (decode _)) no-executable _ (v .i) {b = c .before .executable-with .result} (v .inv .2) (omega arith) refl (cc) (c .if1 .left),
+      keeps-on (i7-grows (decode _)) no-executable _ (v .i) {b = c .before .executable-with .result} (v .inv .2) (omega arith) refl
+          (rw⁻¹ (k .before .before .action-count .ensures .0) (c .before .executable-with .ensures)) (c .if1 .left),
     )
 
 returns-2 : tie.Need-returns-2 Inv-loop μ-loop

@@ -20,16 +20,20 @@ loop-holds c = (search needs, all-grows _ .none)
 
 returns : tie.Need-returns Inv-loop μ-loop
 returns c =
-    let v = c .before .before .before .before .loop in
+    let k = c .before .before .before .before in
+    let v = k .loop in
     below-fails _ no-card _ (v .j) {b = c .before .apart .result} (v .inv .0) (v .inv .1)
-    (omega arith) (omega arith) (c .before .before .card2 .ensures) (cc) (c .if1 .taken)
+    (omega arith) (omega arith) (c .before .before .card2 .ensures)
+    (rw⁻¹ (k .before .card .ensures) (c .before .apart .ensures)) (c .if1 .taken)
 
 loop-again : tie.Need-loop-again Inv-loop μ-loop
 loop-again c =
-    let v = c .before .before .before .before .loop in (
+    let k = c .before .before .before .before in
+    let v = k .loop in (
       search needs,
       below-goes-on _ no-card _ (v .j) {b = c .before .apart .result} (v .inv .0) (v .inv .1)
-          (omega arith) (omega arith) (c .before .before .card2 .ensures) (cc) (c .if1 .left),
+          (omega arith) (omega arith) (c .before .before .card2 .ensures)
+          (rw⁻¹ (k .before .card .ensures) (c .before .apart .ensures)) (c .if1 .left),
     )
 
 returns-2 : tie.Need-returns-2 Inv-loop μ-loop

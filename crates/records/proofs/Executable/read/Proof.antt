@@ -3,7 +3,9 @@ use Rattle.records.proofs.Executable.read.Statement.{statement}
 use Rattle.records.proofs.Executable.read.Tie as tie
 
 returns : tie.Need-returns
-returns c = cc
+returns c =
+    let k = c .before .before in
+    rw (k .before .before .id .ensures, k .before .domain .ensures, k .blank .ensures, c .before .signing .ensures, c .permissions .ensures)
 
 pub read-spec : {M : Type 1} → statement M
 read-spec =
