@@ -193,7 +193,7 @@ pub fn key_elsewhere(s: &[u8], key: u32, domain: u8) -> bool
     false
 }
 
-pub fn in_card_table(s: &[u8], n: u16) -> bool
+fn in_card_table(s: &[u8], n: u16) -> bool
     requires { ⌜ Framed (now s) ⌝ }
     ensures { λ r. ⌜ r ≡ in-card-table (decode (now (s .entry)) .cards) n ⌝ }
 {

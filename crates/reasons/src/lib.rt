@@ -60,7 +60,7 @@ pub const UNSERVED: u8 = 15;
 // ---- the reasons
 
 // The first true reason, and 0 where none is.
-pub fn reason(s: &[u8], c: Certificate) -> u8
+fn reason(s: &[u8], c: Certificate) -> u8
     requires { ⌜ Framed (now s) ⌝ }
     ensures { λ r. ⌜ r ≡ reason (decode (now (s .entry)) .trust) c ⌝ }
 {

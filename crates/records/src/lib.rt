@@ -70,63 +70,63 @@ impl Header {
 
     pub const ENABLE_LISTED: u16 = Event::ENABLE_LISTED as u16;
 
-    pub fn version(s: &[u8]) -> u16
+    fn version(s: &[u8]) -> u16
         requires { ⌜ header-size ≤ length (now s) ⌝ }
         ensures { λ r. ⌜ r ≡ version (now (s .entry)) ⌝ }
     {
         octets::read16(s, Header::VERSION)
     }
 
-    pub fn certificate_slots(s: &[u8]) -> u16
+    fn certificate_slots(s: &[u8]) -> u16
         requires { ⌜ header-size ≤ length (now s) ⌝ }
         ensures { λ r. ⌜ r ≡ certificate-slots (now (s .entry)) ⌝ }
     {
         octets::read16(s, Header::CERTIFICATE_SLOTS)
     }
 
-    pub fn card_count(s: &[u8]) -> u16
+    fn card_count(s: &[u8]) -> u16
         requires { ⌜ header-size ≤ length (now s) ⌝ }
         ensures { λ r. ⌜ r ≡ card-count (now (s .entry)) ⌝ }
     {
         octets::read16(s, Header::CARD_COUNT)
     }
 
-    pub fn executable_slots(s: &[u8]) -> u16
+    fn executable_slots(s: &[u8]) -> u16
         requires { ⌜ header-size ≤ length (now s) ⌝ }
         ensures { λ r. ⌜ r ≡ executable-slots (now (s .entry)) ⌝ }
     {
         octets::read16(s, Header::EXECUTABLE_SLOTS)
     }
 
-    pub fn action_count(s: &[u8]) -> u16
+    fn action_count(s: &[u8]) -> u16
         requires { ⌜ header-size ≤ length (now s) ⌝ }
         ensures { λ r. ⌜ r ≡ action-count (now (s .entry)) ⌝ }
     {
         octets::read16(s, Header::ACTION_COUNT)
     }
 
-    pub fn mode(s: &[u8]) -> u16
+    fn mode(s: &[u8]) -> u16
         requires { ⌜ header-size ≤ length (now s) ⌝ }
         ensures { λ r. ⌜ r ≡ standing-mode (now (s .entry)) ⌝ }
     {
         octets::read16(s, Header::MODE)
     }
 
-    pub fn card(s: &[u8]) -> u16
+    fn card(s: &[u8]) -> u16
         requires { ⌜ header-size ≤ length (now s) ⌝ }
         ensures { λ r. ⌜ r ≡ card-present (now (s .entry)) ⌝ }
     {
         octets::read16(s, Header::CARD)
     }
 
-    pub fn blank(s: &[u8]) -> u16
+    fn blank(s: &[u8]) -> u16
         requires { ⌜ header-size ≤ length (now s) ⌝ }
         ensures { λ r. ⌜ r ≡ header-zero (now (s .entry)) ⌝ }
     {
         octets::read16(s, Header::BLANK)
     }
 
-    pub fn clock(s: &[u8]) -> u32
+    fn clock(s: &[u8]) -> u32
         requires { ⌜ header-size ≤ length (now s) ⌝ }
         ensures { λ r. ⌜ r ≡ clock-time (now (s .entry)) ⌝ }
     {
@@ -220,7 +220,7 @@ impl Certificate {
 
     pub const VALID: u8 = 1;
 
-    pub fn read(s: &[u8], at: usize) -> Certificate
+    fn read(s: &[u8], at: usize) -> Certificate
         requires { ⌜ at + certificate-size ≤ length (now s) ⌝ }
         ensures { λ r. ⌜ r ≡ certificate-read (now (s .entry)) at ⌝ }
     {
@@ -238,70 +238,70 @@ impl Certificate {
         }
     }
 
-    pub fn id(s: &[u8], at: usize) -> u16
+    fn id(s: &[u8], at: usize) -> u16
         requires { ⌜ at + certificate-size ≤ length (now s) ⌝ }
         ensures { λ r. ⌜ r ≡ certificate-read (now (s .entry)) at .id ⌝ }
     {
         octets::read16(s, at + Certificate::ID)
     }
 
-    pub fn place(s: &[u8], at: usize) -> u16
+    fn place(s: &[u8], at: usize) -> u16
         requires { ⌜ at + certificate-size ≤ length (now s) ⌝ }
         ensures { λ r. ⌜ r ≡ certificate-read (now (s .entry)) at .place ⌝ }
     {
         octets::read16(s, at + Certificate::PLACE)
     }
 
-    pub fn kind(s: &[u8], at: usize) -> u8
+    fn kind(s: &[u8], at: usize) -> u8
         requires { ⌜ at + certificate-size ≤ length (now s) ⌝ }
         ensures { λ r. ⌜ r ≡ certificate-read (now (s .entry)) at .kind ⌝ }
     {
         octets::read8(s, at + Certificate::KIND)
     }
 
-    pub fn domain(s: &[u8], at: usize) -> u8
+    fn domain(s: &[u8], at: usize) -> u8
         requires { ⌜ at + certificate-size ≤ length (now s) ⌝ }
         ensures { λ r. ⌜ r ≡ certificate-read (now (s .entry)) at .domain ⌝ }
     {
         octets::read8(s, at + Certificate::DOMAIN)
     }
 
-    pub fn mark(s: &[u8], at: usize) -> u8
+    fn mark(s: &[u8], at: usize) -> u8
         requires { ⌜ at + certificate-size ≤ length (now s) ⌝ }
         ensures { λ r. ⌜ r ≡ certificate-read (now (s .entry)) at .mark ⌝ }
     {
         octets::read8(s, at + Certificate::MARK)
     }
 
-    pub fn enabled(s: &[u8], at: usize) -> u8
+    fn enabled(s: &[u8], at: usize) -> u8
         requires { ⌜ at + certificate-size ≤ length (now s) ⌝ }
         ensures { λ r. ⌜ r ≡ certificate-read (now (s .entry)) at .enabled ⌝ }
     {
         octets::read8(s, at + Certificate::ENABLED)
     }
 
-    pub fn key(s: &[u8], at: usize) -> u32
+    fn key(s: &[u8], at: usize) -> u32
         requires { ⌜ at + certificate-size ≤ length (now s) ⌝ }
         ensures { λ r. ⌜ r ≡ certificate-read (now (s .entry)) at .key ⌝ }
     {
         octets::read32(s, at + Certificate::KEY)
     }
 
-    pub fn verifying(s: &[u8], at: usize) -> u32
+    fn verifying(s: &[u8], at: usize) -> u32
         requires { ⌜ at + certificate-size ≤ length (now s) ⌝ }
         ensures { λ r. ⌜ r ≡ certificate-read (now (s .entry)) at .verifying ⌝ }
     {
         octets::read32(s, at + Certificate::VERIFYING)
     }
 
-    pub fn owner(s: &[u8], at: usize) -> u32
+    fn owner(s: &[u8], at: usize) -> u32
         requires { ⌜ at + certificate-size ≤ length (now s) ⌝ }
         ensures { λ r. ⌜ r ≡ certificate-read (now (s .entry)) at .owner ⌝ }
     {
         octets::read32(s, at + Certificate::OWNER)
     }
 
-    pub fn expiry(s: &[u8], at: usize) -> u32
+    fn expiry(s: &[u8], at: usize) -> u32
         requires { ⌜ at + certificate-size ≤ length (now s) ⌝ }
         ensures { λ r. ⌜ r ≡ certificate-read (now (s .entry)) at .expiry ⌝ }
     {
@@ -330,7 +330,7 @@ impl Certificate {
         octets::write32(s, at + Certificate::EXPIRY, c.expiry);
     }
 
-    pub fn write(s: &mut [u8], at: usize, c: Certificate)
+    fn write(s: &mut [u8], at: usize, c: Certificate)
         requires { ⌜ at + certificate-size ≤ length (now s) ⌝ }
         ensures { λ _. ⌜ now (s .exit) ≡ put (now (s .entry)) at (certificate-bytes c) ⌝ }
     {
@@ -357,7 +357,7 @@ impl Card {
 
     pub const OPERATOR: usize = 4;
 
-    pub fn read(s: &[u8], at: usize) -> Card
+    fn read(s: &[u8], at: usize) -> Card
         requires { ⌜ at + card-size ≤ length (now s) ⌝ }
         ensures { λ r. ⌜ r ≡ card-read (now (s .entry)) at ⌝ }
     {
@@ -368,21 +368,21 @@ impl Card {
         }
     }
 
-    pub fn number(s: &[u8], at: usize) -> u16
+    fn number(s: &[u8], at: usize) -> u16
         requires { ⌜ at + card-size ≤ length (now s) ⌝ }
         ensures { λ r. ⌜ r ≡ card-read (now (s .entry)) at .number ⌝ }
     {
         octets::read16(s, at + Card::NUMBER)
     }
 
-    pub fn blank(s: &[u8], at: usize) -> u16
+    fn blank(s: &[u8], at: usize) -> u16
         requires { ⌜ at + card-size ≤ length (now s) ⌝ }
         ensures { λ r. ⌜ r ≡ card-read (now (s .entry)) at .blank ⌝ }
     {
         octets::read16(s, at + Card::BLANK)
     }
 
-    pub fn operator(s: &[u8], at: usize) -> u32
+    fn operator(s: &[u8], at: usize) -> u32
         requires { ⌜ at + card-size ≤ length (now s) ⌝ }
         ensures { λ r. ⌜ r ≡ card-read (now (s .entry)) at .operator ⌝ }
     {
@@ -414,7 +414,7 @@ impl Executable {
 
     pub const PERMISSIONS: usize = 8;
 
-    pub fn read(s: &[u8], at: usize) -> Executable
+    fn read(s: &[u8], at: usize) -> Executable
         requires { ⌜ at + executable-size ≤ length (now s) ⌝ }
         ensures { λ r. ⌜ r ≡ executable-read (now (s .entry)) at ⌝ }
     {
@@ -427,42 +427,42 @@ impl Executable {
         }
     }
 
-    pub fn id(s: &[u8], at: usize) -> u16
+    fn id(s: &[u8], at: usize) -> u16
         requires { ⌜ at + executable-size ≤ length (now s) ⌝ }
         ensures { λ r. ⌜ r ≡ executable-read (now (s .entry)) at .id ⌝ }
     {
         octets::read16(s, at + Executable::ID)
     }
 
-    pub fn domain(s: &[u8], at: usize) -> u8
+    fn domain(s: &[u8], at: usize) -> u8
         requires { ⌜ at + executable-size ≤ length (now s) ⌝ }
         ensures { λ r. ⌜ r ≡ executable-read (now (s .entry)) at .domain ⌝ }
     {
         octets::read8(s, at + Executable::DOMAIN)
     }
 
-    pub fn blank(s: &[u8], at: usize) -> u8
+    fn blank(s: &[u8], at: usize) -> u8
         requires { ⌜ at + executable-size ≤ length (now s) ⌝ }
         ensures { λ r. ⌜ r ≡ executable-read (now (s .entry)) at .blank ⌝ }
     {
         octets::read8(s, at + Executable::BLANK)
     }
 
-    pub fn signing(s: &[u8], at: usize) -> u32
+    fn signing(s: &[u8], at: usize) -> u32
         requires { ⌜ at + executable-size ≤ length (now s) ⌝ }
         ensures { λ r. ⌜ r ≡ executable-read (now (s .entry)) at .signing ⌝ }
     {
         octets::read32(s, at + Executable::SIGNING)
     }
 
-    pub fn permissions(s: &[u8], at: usize) -> u32
+    fn permissions(s: &[u8], at: usize) -> u32
         requires { ⌜ at + executable-size ≤ length (now s) ⌝ }
         ensures { λ r. ⌜ r ≡ executable-read (now (s .entry)) at .permissions ⌝ }
     {
         octets::read32(s, at + Executable::PERMISSIONS)
     }
 
-    pub fn write(s: &mut [u8], at: usize, x: Executable)
+    fn write(s: &mut [u8], at: usize, x: Executable)
         requires { ⌜ at + executable-size ≤ length (now s) ⌝ }
         ensures { λ _. ⌜ now (s .exit) ≡ put (now (s .entry)) at (executable-bytes x) ⌝ }
     {
@@ -502,7 +502,7 @@ impl Row {
 
     pub const FREELY: u8 = 2;
 
-    pub fn read(s: &[u8], at: usize) -> Row
+    fn read(s: &[u8], at: usize) -> Row
         requires { ⌜ at + row-size ≤ length (now s) ⌝ }
         ensures { λ r. ⌜ r ≡ row-read (now (s .entry)) at ⌝ }
     {
@@ -514,28 +514,28 @@ impl Row {
         }
     }
 
-    pub fn untrusted(s: &[u8], at: usize) -> u8
+    fn untrusted(s: &[u8], at: usize) -> u8
         requires { ⌜ at + row-size ≤ length (now s) ⌝ }
         ensures { λ r. ⌜ r ≡ row-read (now (s .entry)) at .untrusted ⌝ }
     {
         octets::read8(s, at + Row::UNTRUSTED)
     }
 
-    pub fn operator(s: &[u8], at: usize) -> u8
+    fn operator(s: &[u8], at: usize) -> u8
         requires { ⌜ at + row-size ≤ length (now s) ⌝ }
         ensures { λ r. ⌜ r ≡ row-read (now (s .entry)) at .operator ⌝ }
     {
         octets::read8(s, at + Row::OPERATOR)
     }
 
-    pub fn manufacturer(s: &[u8], at: usize) -> u8
+    fn manufacturer(s: &[u8], at: usize) -> u8
         requires { ⌜ at + row-size ≤ length (now s) ⌝ }
         ensures { λ r. ⌜ r ≡ row-read (now (s .entry)) at .manufacturer ⌝ }
     {
         octets::read8(s, at + Row::MANUFACTURER)
     }
 
-    pub fn third(s: &[u8], at: usize) -> u8
+    fn third(s: &[u8], at: usize) -> u8
         requires { ⌜ at + row-size ≤ length (now s) ⌝ }
         ensures { λ r. ⌜ r ≡ row-read (now (s .entry)) at .third ⌝ }
     {
@@ -665,56 +665,56 @@ impl Event {
         octets::read8(s, at + Event::ACTOR)
     }
 
-    pub fn id(s: &[u8], at: usize) -> u16
+    fn id(s: &[u8], at: usize) -> u16
         requires { ⌜ at + event-size ≤ length (now s) ⌝ }
         ensures { λ r. ⌜ r ≡ event-read (now (s .entry)) at .id ⌝ }
     {
         octets::read16(s, at + Event::ID)
     }
 
-    pub fn second(s: &[u8], at: usize) -> u16
+    fn second(s: &[u8], at: usize) -> u16
         requires { ⌜ at + event-size ≤ length (now s) ⌝ }
         ensures { λ r. ⌜ r ≡ event-read (now (s .entry)) at .second ⌝ }
     {
         octets::read16(s, at + Event::SECOND)
     }
 
-    pub fn third(s: &[u8], at: usize) -> u8
+    fn third(s: &[u8], at: usize) -> u8
         requires { ⌜ at + event-size ≤ length (now s) ⌝ }
         ensures { λ r. ⌜ r ≡ event-read (now (s .entry)) at .third ⌝ }
     {
         octets::read8(s, at + Event::THIRD)
     }
 
-    pub fn fourth(s: &[u8], at: usize) -> u8
+    fn fourth(s: &[u8], at: usize) -> u8
         requires { ⌜ at + event-size ≤ length (now s) ⌝ }
         ensures { λ r. ⌜ r ≡ event-read (now (s .entry)) at .fourth ⌝ }
     {
         octets::read8(s, at + Event::FOURTH)
     }
 
-    pub fn key(s: &[u8], at: usize) -> u32
+    fn key(s: &[u8], at: usize) -> u32
         requires { ⌜ at + event-size ≤ length (now s) ⌝ }
         ensures { λ r. ⌜ r ≡ event-read (now (s .entry)) at .key ⌝ }
     {
         octets::read32(s, at + Event::KEY)
     }
 
-    pub fn verifying(s: &[u8], at: usize) -> u32
+    fn verifying(s: &[u8], at: usize) -> u32
         requires { ⌜ at + event-size ≤ length (now s) ⌝ }
         ensures { λ r. ⌜ r ≡ event-read (now (s .entry)) at .verifying ⌝ }
     {
         octets::read32(s, at + Event::VERIFYING)
     }
 
-    pub fn owner(s: &[u8], at: usize) -> u32
+    fn owner(s: &[u8], at: usize) -> u32
         requires { ⌜ at + event-size ≤ length (now s) ⌝ }
         ensures { λ r. ⌜ r ≡ event-read (now (s .entry)) at .owner ⌝ }
     {
         octets::read32(s, at + Event::OWNER)
     }
 
-    pub fn expiry(s: &[u8], at: usize) -> u32
+    fn expiry(s: &[u8], at: usize) -> u32
         requires { ⌜ at + event-size ≤ length (now s) ⌝ }
         ensures { λ r. ⌜ r ≡ event-read (now (s .entry)) at .expiry ⌝ }
     {

@@ -59,7 +59,7 @@ pub fn put_number(out: &mut [u8], at: usize, n: u64) -> usize
 }
 
 // A space and a number put at a place: the place behind them.
-pub fn put_column(out: &mut [u8], at: usize, n: u64) -> usize
+fn put_column(out: &mut [u8], at: usize, n: u64) -> usize
     requires { ⌜ at + 1 + most-digits ≤ length (now out) ⌝ }
     ensures { λ r. ⌜ (now (out .exit) ≡ put (now (out .entry)) at (column n)) × (r ≡ at + length (column n)) ⌝ }
 {

@@ -86,7 +86,7 @@ fn in_time(t: &[u8], clock: u32) -> bool
 }
 
 // Whether any bytes are a timeline for an image with this clock.
-pub fn fits(t: &[u8], clock: u32) -> bool
+fn fits(t: &[u8], clock: u32) -> bool
     ensures { λ r. ⌜ r ≡ timeline-fits clock (now (t .entry)) ⌝ }
 {
     if !is_framed(t) {

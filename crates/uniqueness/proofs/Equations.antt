@@ -58,33 +58,6 @@ one-slots-rest κs a r r′ e e′ = returned
 
 -- ==== records
 
-pub one-header-version : One-result Rattle.records.proofs.Header.version.Reads.Learnt
-one-header-version κs a r r′ e e′ = returned
-
-pub one-header-certificate-slots : One-result Rattle.records.proofs.Header.certificate_slots.Reads.Learnt
-one-header-certificate-slots κs a r r′ e e′ = returned
-
-pub one-header-card-count : One-result Rattle.records.proofs.Header.card_count.Reads.Learnt
-one-header-card-count κs a r r′ e e′ = returned
-
-pub one-header-executable-slots : One-result Rattle.records.proofs.Header.executable_slots.Reads.Learnt
-one-header-executable-slots κs a r r′ e e′ = returned
-
-pub one-header-action-count : One-result Rattle.records.proofs.Header.action_count.Reads.Learnt
-one-header-action-count κs a r r′ e e′ = returned
-
-pub one-header-mode : One-result Rattle.records.proofs.Header.mode.Reads.Learnt
-one-header-mode κs a r r′ e e′ = returned
-
-pub one-header-card : One-result Rattle.records.proofs.Header.card.Reads.Learnt
-one-header-card κs a r r′ e e′ = returned
-
-pub one-header-blank : One-result Rattle.records.proofs.Header.blank.Reads.Learnt
-one-header-blank κs a r r′ e e′ = returned
-
-pub one-header-clock : One-result Rattle.records.proofs.Header.clock.Reads.Learnt
-one-header-clock κs a r r′ e e′ = returned
-
 pub one-header-certificates-at : One-result Rattle.records.proofs.Header.certificates_at.Reads.Learnt
 one-header-certificates-at κs a r r′ e e′ = returned
 
@@ -100,90 +73,6 @@ one-header-table-at κs a r r′ e e′ = returned
 pub one-header-total : One-result Rattle.records.proofs.Header.total.Reads.Learnt
 one-header-total κs a r r′ e e′ = returned
 
-pub one-certificate-read : One-result Rattle.records.proofs.Certificate.read.Reads.Learnt
-one-certificate-read κs a r r′ e e′ = returned
-
-pub one-certificate-id : One-result Rattle.records.proofs.Certificate.id.Reads.Learnt
-one-certificate-id κs a r r′ e e′ = returned
-
-pub one-certificate-place : One-result Rattle.records.proofs.Certificate.place.Reads.Learnt
-one-certificate-place κs a r r′ e e′ = returned
-
-pub one-certificate-kind : One-result Rattle.records.proofs.Certificate.kind.Reads.Learnt
-one-certificate-kind κs a r r′ e e′ = returned
-
-pub one-certificate-domain : One-result Rattle.records.proofs.Certificate.domain.Reads.Learnt
-one-certificate-domain κs a r r′ e e′ = returned
-
-pub one-certificate-mark : One-result Rattle.records.proofs.Certificate.mark.Reads.Learnt
-one-certificate-mark κs a r r′ e e′ = returned
-
-pub one-certificate-enabled : One-result Rattle.records.proofs.Certificate.enabled.Reads.Learnt
-one-certificate-enabled κs a r r′ e e′ = returned
-
-pub one-certificate-key : One-result Rattle.records.proofs.Certificate.key.Reads.Learnt
-one-certificate-key κs a r r′ e e′ = returned
-
-pub one-certificate-verifying : One-result Rattle.records.proofs.Certificate.verifying.Reads.Learnt
-one-certificate-verifying κs a r r′ e e′ = returned
-
-pub one-certificate-owner : One-result Rattle.records.proofs.Certificate.owner.Reads.Learnt
-one-certificate-owner κs a r r′ e e′ = returned
-
-pub one-certificate-expiry : One-result Rattle.records.proofs.Certificate.expiry.Reads.Learnt
-one-certificate-expiry κs a r r′ e e′ = returned
-
-pub one-certificate-write : One-outcome Rattle.records.proofs.Certificate.write.Reads.Learnt (λ e. e .0 .now ∷ [])
-one-certificate-write κs a r r′ e e′ = written
-
-pub one-card-read : One-result Rattle.records.proofs.Card.read.Reads.Learnt
-one-card-read κs a r r′ e e′ = returned
-
-pub one-card-number : One-result Rattle.records.proofs.Card.number.Reads.Learnt
-one-card-number κs a r r′ e e′ = returned
-
-pub one-card-blank : One-result Rattle.records.proofs.Card.blank.Reads.Learnt
-one-card-blank κs a r r′ e e′ = returned
-
-pub one-card-operator : One-result Rattle.records.proofs.Card.operator.Reads.Learnt
-one-card-operator κs a r r′ e e′ = returned
-
-pub one-executable-read : One-result Rattle.records.proofs.Executable.read.Reads.Learnt
-one-executable-read κs a r r′ e e′ = returned
-
-pub one-executable-id : One-result Rattle.records.proofs.Executable.id.Reads.Learnt
-one-executable-id κs a r r′ e e′ = returned
-
-pub one-executable-domain : One-result Rattle.records.proofs.Executable.domain.Reads.Learnt
-one-executable-domain κs a r r′ e e′ = returned
-
-pub one-executable-blank : One-result Rattle.records.proofs.Executable.blank.Reads.Learnt
-one-executable-blank κs a r r′ e e′ = returned
-
-pub one-executable-signing : One-result Rattle.records.proofs.Executable.signing.Reads.Learnt
-one-executable-signing κs a r r′ e e′ = returned
-
-pub one-executable-permissions : One-result Rattle.records.proofs.Executable.permissions.Reads.Learnt
-one-executable-permissions κs a r r′ e e′ = returned
-
-pub one-executable-write : One-outcome Rattle.records.proofs.Executable.write.Reads.Learnt (λ e. e .0 .now ∷ [])
-one-executable-write κs a r r′ e e′ = written
-
-pub one-row-read : One-result Rattle.records.proofs.Row.read.Reads.Learnt
-one-row-read κs a r r′ e e′ = returned
-
-pub one-row-untrusted : One-result Rattle.records.proofs.Row.untrusted.Reads.Learnt
-one-row-untrusted κs a r r′ e e′ = returned
-
-pub one-row-operator : One-result Rattle.records.proofs.Row.operator.Reads.Learnt
-one-row-operator κs a r r′ e e′ = returned
-
-pub one-row-manufacturer : One-result Rattle.records.proofs.Row.manufacturer.Reads.Learnt
-one-row-manufacturer κs a r r′ e e′ = returned
-
-pub one-row-third : One-result Rattle.records.proofs.Row.third.Reads.Learnt
-one-row-third κs a r r′ e e′ = returned
-
 pub one-event-read : One-result Rattle.records.proofs.Event.read.Reads.Learnt
 one-event-read κs a r r′ e e′ = returned
 
@@ -192,30 +81,6 @@ one-event-kind κs a r r′ e e′ = returned
 
 pub one-event-actor : One-result Rattle.records.proofs.Event.actor.Reads.Learnt
 one-event-actor κs a r r′ e e′ = returned
-
-pub one-event-id : One-result Rattle.records.proofs.Event.id.Reads.Learnt
-one-event-id κs a r r′ e e′ = returned
-
-pub one-event-second : One-result Rattle.records.proofs.Event.second.Reads.Learnt
-one-event-second κs a r r′ e e′ = returned
-
-pub one-event-third : One-result Rattle.records.proofs.Event.third.Reads.Learnt
-one-event-third κs a r r′ e e′ = returned
-
-pub one-event-fourth : One-result Rattle.records.proofs.Event.fourth.Reads.Learnt
-one-event-fourth κs a r r′ e e′ = returned
-
-pub one-event-key : One-result Rattle.records.proofs.Event.key.Reads.Learnt
-one-event-key κs a r r′ e e′ = returned
-
-pub one-event-verifying : One-result Rattle.records.proofs.Event.verifying.Reads.Learnt
-one-event-verifying κs a r r′ e e′ = returned
-
-pub one-event-owner : One-result Rattle.records.proofs.Event.owner.Reads.Learnt
-one-event-owner κs a r r′ e e′ = returned
-
-pub one-event-expiry : One-result Rattle.records.proofs.Event.expiry.Reads.Learnt
-one-event-expiry κs a r r′ e e′ = returned
 
 pub one-image-is-framed : One-result Rattle.records.proofs.image.is_framed.Reads.Learnt
 one-image-is-framed κs a r r′ e e′ = returned
@@ -374,9 +239,6 @@ one-lookup-has-marked-operator κs a r r′ e e′ = returned
 pub one-lookup-key-elsewhere : One-result Rattle.lookup.proofs.key_elsewhere.Reads.Learnt
 one-lookup-key-elsewhere κs a r r′ e e′ = returned
 
-pub one-lookup-in-card-table : One-result Rattle.lookup.proofs.in_card_table.Reads.Learnt
-one-lookup-in-card-table κs a r r′ e e′ = returned
-
 pub one-lookup-known-place : One-result Rattle.lookup.proofs.known_place.Reads.Learnt
 one-lookup-known-place κs a r r′ e e′ = returned
 
@@ -422,13 +284,7 @@ one-handling-retire κs a r r′ e e′ = written
 
 -- ==== reasons
 
-pub one-reasons-reason : One-result Rattle.reasons.proofs.reason.Reads.Learnt
-one-reasons-reason κs a r r′ e e′ = returned
-
 -- ==== timeline
-
-pub one-timeline-fits : One-result Rattle.timeline.proofs.fits.Reads.Learnt
-one-timeline-fits κs a r r′ e e′ = returned
 
 -- ==== monitor
 

@@ -191,9 +191,6 @@ one-monitor-timeline κs a r r′ e e′ x y = (returned (x .answer) (y .answer)
 pub one-stream-put-number : One-outcome Rattle.stream.proofs.put_number.Reads.Learnt (λ e. e .0 .now ∷ [])
 one-stream-put-number κs a r r′ e e′ x y = (returned (x .1) (y .1), buffer (x .0) (y .0))
 
-pub one-stream-put-column : One-outcome Rattle.stream.proofs.put_column.Reads.Learnt (λ e. e .0 .now ∷ [])
-one-stream-put-column κs a r r′ e e′ x y = (returned (x .1) (y .1), buffer (x .0) (y .0))
-
 pub one-stream-put-refusal : One-outcome Rattle.stream.proofs.put_refusal.Reads.Learnt (λ e. e .0 .now ∷ [])
 one-stream-put-refusal κs a r r′ e e′ x y = (returned (x .1) (y .1), buffer (x .0) (y .0))
 
