@@ -3,20 +3,7 @@ use Rattle.records.proofs.Certificate.read.Statement.{statement}
 use Rattle.records.proofs.Certificate.read.Tie as tie
 
 returns : tie.Need-returns
-returns c =
-    let k = c .before .before .before .before .before in
-    rw (
-      k .before .before .before .before .id .ensures,
-      k .before .before .before .place .ensures,
-      k .before .before .kind .ensures,
-      k .before .domain .ensures,
-      k .mark .ensures,
-      c .before .before .before .before .enabled .ensures,
-      c .before .before .before .key .ensures,
-      c .before .before .verifying .ensures,
-      c .before .owner .ensures,
-      c .expiry .ensures,
-    )
+returns c = cc
 
 pub read-spec : {M : Type 1} → statement M
 read-spec =

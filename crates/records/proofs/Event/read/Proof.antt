@@ -3,20 +3,7 @@ use Rattle.records.proofs.Event.read.Statement.{statement}
 use Rattle.records.proofs.Event.read.Tie as tie
 
 returns : tie.Need-returns
-returns c =
-    let k = c .before .before .before .before .before in
-    rw (
-      k .before .before .before .before .kind .ensures,
-      k .before .before .before .actor .ensures,
-      k .before .before .id .ensures,
-      k .before .second .ensures,
-      k .third .ensures,
-      c .before .before .before .before .fourth .ensures,
-      c .before .before .before .key .ensures,
-      c .before .before .verifying .ensures,
-      c .before .owner .ensures,
-      c .expiry .ensures,
-    )
+returns c = cc
 
 pub read-spec : {M : Type 1} → statement M
 read-spec =
