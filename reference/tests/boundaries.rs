@@ -1,8 +1,7 @@
 //! The ten boundaries that 01 marks P, at the end of "One run of `bench`, whole", and the two that
 //! 02, "Roots have a date as well", adds to them.
 
-mod common;
-use common::{answers, worked_image, WORKED_RUN};
+use crate::common::{answers, worked_image, WORKED_RUN};
 
 /// The answer to one event of the worked run, counted from 1.
 fn worked(event: usize) -> (u8, u8, u8) {

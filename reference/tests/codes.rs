@@ -2,8 +2,7 @@
 
 use reference::events::allowed_actors;
 
-mod common;
-use common::{answers, codes, phone_after, refusal, worked_image};
+use crate::common::{answers, codes, phone_after, refusal, worked_image};
 
 /// A fuller image: the card of operator 500 is in, one slot of each table is free.
 const IMAGE: &str = "\
@@ -311,7 +310,7 @@ fn the_first_broken_rule_is_told() {
 
 #[test]
 fn a_broken_image_answers_1_and_stays_as_it_is() {
-    let mut image = common::stream(worked_image(), "");
+    let mut image = crate::common::stream(worked_image(), "");
     image[1] = 2;
     let before = image.clone();
     let answer = reference::events::step_image(&mut image, &[]);
@@ -322,9 +321,9 @@ fn a_broken_image_answers_1_and_stays_as_it_is() {
 
 #[test]
 fn rule_and_offset_are_told_for_code_1_alone() {
-    let mut image = common::stream(worked_image(), "");
+    let mut image = crate::common::stream(worked_image(), "");
     let told = |answer: reference::events::Answer| (answer.code, answer.rule, answer.offset);
-    let verify = common::stream("", "verify by device executable 1");
+    let verify = crate::common::stream("", "verify by device executable 1");
     let answer = reference::events::step_image(&mut image, &verify);
     assert_eq!(told(answer), (0, 0, 0));
     let answer = reference::events::step_image(&mut image, &[]);

@@ -1,8 +1,7 @@
 //! 02, "Roots have a date as well": when a root is trusted and when it is valid, what I5, I8, the
 //! card rule and code 13 make of a mark on a root past its date, and code 18 on its two sides.
 
-mod common;
-use common::{answers, codes, phone_after, refusal, stream, worked_image};
+use crate::common::{answers, codes, phone_after, refusal, stream, worked_image};
 use reference::events::step_image;
 use reference::phone::Phone;
 use reference::text::to_bytes;

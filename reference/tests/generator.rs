@@ -1,9 +1,7 @@
 //! The generator reaches every code of every kind, every way to break a rule, and every chain; its
 //! damaged cases reach every rule at many places.
 
-mod common;
-
-use common::WORKED_RUN;
+use crate::common::WORKED_RUN;
 use reference::bench::split_stream;
 use reference::check::{checked_run, Counts};
 use reference::events::{LAST_CODE, LAST_KIND};

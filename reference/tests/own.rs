@@ -1,12 +1,10 @@
 //! The sub-command `own`: owners put into streams and timelines from before 02, "An operator is
 //! somebody in particular", and nothing else changed.
 
-mod common;
-
 use std::io::Write;
 use std::process::{Command, Output, Stdio};
 
-use common::{stream, worked_image, WORKED_RUN};
+use crate::common::{stream, worked_image, WORKED_RUN};
 use reference::bench::{run, run_and_watch, split_stream};
 use reference::events::Event;
 use reference::generate::{case, timelines};

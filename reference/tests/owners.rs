@@ -1,8 +1,7 @@
 //! 02, "An operator is somebody in particular": who may delete and mark, code 4 for a wrong owner,
 //! code 2 for an owner that nobody has to name, and what stays as it was.
 
-mod common;
-use common::{codes, phone_after, stream};
+use crate::common::{codes, phone_after, stream};
 use reference::events::{step_image, Event};
 use reference::text::to_bytes;
 

@@ -1,8 +1,7 @@
 //! 02, "Recovery keys": certificate kind 2 and event 16, each code and what lies beside it, what a
 //! replace does, and what a recovery record is not.
 
-mod common;
-use common::{answers, codes, phone_after, refusal, stream};
+use crate::common::{answers, codes, phone_after, refusal, stream};
 use reference::events::{step_image, Event, REPLACE};
 use reference::phone::{Certificate, Phone, OPERATOR, ROOT};
 use reference::text::to_bytes;
@@ -514,7 +513,7 @@ fn with_bytes(at: usize, bytes: &[u8]) -> (u8, usize) {
     let mut image = stream(IMAGE, "");
     let start = 40 + 24 * 12 + at;
     image[start..start + bytes.len()].copy_from_slice(bytes);
-    common::refusal_of_bytes(&image)
+    crate::common::refusal_of_bytes(&image)
 }
 
 #[test]

@@ -1,8 +1,6 @@
 //! Where an image is wrong: the first broken rule and the byte offset, for every rule and its parts.
 
-mod common;
-
-use common::{refusal, refusal_of_bytes, stream};
+use crate::common::{refusal, refusal_of_bytes, stream};
 use reference::bench;
 use reference::generate::{case_of, Mix};
 use reference::phone::{Certificate, Executable, Phone, MANUFACTURER, OPERATOR, ROOT};

@@ -3,8 +3,7 @@
 use reference::generate::case;
 use reference::text::{to_bytes, to_text};
 
-mod common;
-use common::{worked_image, WORKED_RUN};
+use crate::common::{worked_image, WORKED_RUN};
 
 fn leads_back(bytes: &[u8]) {
     assert_eq!(to_bytes(&to_text(bytes)).as_deref(), Ok(bytes));

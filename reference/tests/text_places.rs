@@ -1,7 +1,6 @@
 //! Every byte of a text has the line that stands for it, and every error says what was found.
 
-mod common;
-use common::{worked_image, WORKED_RUN};
+use crate::common::{worked_image, WORKED_RUN};
 use reference::text::{to_bytes, to_placed_bytes, to_text, PlacedBytes};
 
 fn placed(text: &str) -> PlacedBytes {

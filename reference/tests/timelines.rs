@@ -1,8 +1,7 @@
 //! 02, "Lesson timelines": the form of a timeline, the clock events that are put in, code 19 behind 1
 //! and before any event, and that running one equals running its events.
 
-mod common;
-use common::{stream, worked_image, WORKED_RUN};
+use crate::common::{stream, worked_image, WORKED_RUN};
 use reference::bench;
 use reference::phone::Phone;
 use reference::text::to_bytes;

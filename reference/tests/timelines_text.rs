@@ -1,7 +1,6 @@
 //! The text form of timelines leads back to the same bytes, and its errors name the line.
 
-mod common;
-use common::{stream, worked_image};
+use crate::common::{stream, worked_image};
 use reference::generate::timelines::case;
 use reference::text::{timeline_to_text, to_bytes};
 

@@ -1,12 +1,10 @@
 //! The sub-commands for timelines from outside: what they print where, how they end, and that the
 //! driver finds no fault with `play`.
 
-mod common;
-
 use std::io::Write;
 use std::process::{Command, Output, Stdio};
 
-use common::{stream, worked_image};
+use crate::common::{stream, worked_image};
 use reference::fuzz::{fuzz, Plan, Task, Until};
 
 fn reference(words: &[&str], input: &[u8]) -> Output {

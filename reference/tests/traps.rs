@@ -1,7 +1,6 @@
 //! 01, "Traps for the modeller", and the blind spots of the worked run.
 
-mod common;
-use common::{answers, phone_after, worked_image};
+use crate::common::{answers, phone_after, worked_image};
 
 #[test]
 fn the_phones_key_stays_invalid_when_the_card_leaves() {

@@ -1,9 +1,7 @@
 //! Why an executable is trusted or not: every line, every reason and its order, which chain is
 //! printed, events before the question, and what is refused.
 
-mod common;
-
-use common::{stream, worked_image};
+use crate::common::{stream, worked_image};
 use reference::why::Question;
 
 /// Cards 1 (present) and 2; executables are put behind it.

@@ -1,12 +1,10 @@
 //! The sub-command `why` from outside: what it prints where, how it ends, and that the driver finds
 //! no fault with it.
 
-mod common;
-
 use std::io::Write;
 use std::process::{Command, Output, Stdio};
 
-use common::{stream, worked_image};
+use crate::common::{stream, worked_image};
 use reference::fuzz::{fuzz, Plan, Task, Until};
 
 fn why(words: &[&str], input: &[u8]) -> Output {

@@ -3,8 +3,7 @@
 use reference::bench;
 use reference::text::{to_bytes, to_text};
 
-mod common;
-use common::WORKED_RUN;
+use crate::common::WORKED_RUN;
 
 const PRINTED: &str = "\
 event kind code domain links

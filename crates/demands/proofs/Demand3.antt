@@ -6,10 +6,11 @@ use lib.{Dec.{T, eqb, eqb→eq}, ListN.length}
 use Rattle.records.specs.{Sizes.event-size, Layout.event-bytes, Phone.{Phone, decode, encode}, declared.Event.Event}
 use Rattle.records.proofs.Records.{length-event, event-read-bytes}
 use Rattle.rules.specs.{ImageRules.accepted, Codes.code-of, Step.{step, run}, Demands.{request-event, verify-event, grants, withdrawing, giving}}
+use Rattle.rules.specs.After.{after, after-all}
 use Rattle.laws.proofs.{Tests.{neqb→ne, or-cases, by-test}, Accepted.Accepted, Accepts.accepted-out}
 use Rattle.keeping.specs.OneEvent.{event-of}
 use Rattle.demands.specs.Runs.{is-request, Each-in-turn, Withdrawing-run, Giving-run, verified as image-verified}
-use Rattle.keeping.proofs.{After.{after, after-all}, AcceptedKept.{accepted-after, accepted-after-all}, Order.{Under, under-refl, under-trans}}
+use Rattle.keeping.proofs.{AcceptedKept.{accepted-after, accepted-after-all}, Order.{Under, under-refl, under-trans}}
 use Rattle.keeping.proofs.{Done.refused-still, Settle.request-still, Verified.{verified, accepted-verified, verified-twice, under-verified}}
 use Rattle.keeping.proofs.Bytes.{code-whole, accepted-step, decode-step, step-other, accepted-run, run-written, whole, decode-run, whole-bytes}
 use Rattle.demands.proofs.{Grant.{granted, no-more}, Withdrawing.withdrawing-under, Giving.giving-over}

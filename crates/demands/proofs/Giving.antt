@@ -9,8 +9,9 @@ use Rattle.records.specs.{declared.Executable.Executable, declared.Event.Event}
 use Rattle.rules.specs.{Words.{any, at, change, fill}, Chains.{chain-domain, chain-of}, ImageRules.{free-executable, third-party-root}}
 use Rattle.rules.specs.{Forms.{with-kind, new-certificate, listed}, Codes.{is-executable, certificate-named}, Effects.{after-marking, enabled-by, effect}}
 use Rattle.rules.specs.Demands.{giving}
+use Rattle.rules.specs.After.{after}
 use Rattle.laws.proofs.{Tests.{eq→eqb, neqb→ne, ne→neqb, by-test}, Lists.fill-keeps, Changes.at-cases, Accepted.Accepted, Domain.chain-domain-is}
-use Rattle.keeping.proofs.{ByKind.{the-effects, by-kind}, After.after, Unrefused.Unrefused, Done.after-cases}
+use Rattle.keeping.proofs.{ByKind.{the-effects, by-kind}, Unrefused.Unrefused, Done.after-cases}
 use Rattle.keeping.proofs.{Order.{Below, Under, fewer-refl, below-refl, over-itself, under-refl}, Naming.small-domain}
 use Rattle.keeping.proofs.{Narrowing.{more-filled, marking-widens, Narrows, narrows-marked, narrows-refl, more-map, under-trust, over-map}, Settle.over-settle}
 

@@ -10,8 +10,9 @@ use Rattle.records.specs.Phone.{with-executables}
 use Rattle.records.specs.{declared.Certificate.Certificate, declared.Executable.Executable, declared.Event.Event}
 use Rattle.rules.specs.{Words.{any, at, change}, ImageRules.third-party-root, Forms.{with-kind, listed}, Codes.{has-id, is-executable, time-back}}
 use Rattle.rules.specs.{Effects.{enabled-by, effect, settle}, Demands.withdrawing}
+use Rattle.rules.specs.After.{after}
 use Rattle.laws.proofs.{Tests.{eq→eqb, neqb→ne, by-test}, Changes.at-cases}
-use Rattle.keeping.proofs.{ByKind.{the-effects, by-withdrawing}, After.after, Unrefused.Unrefused, Done.after-cases}
+use Rattle.keeping.proofs.{ByKind.{the-effects, by-withdrawing}, Unrefused.Unrefused, Done.after-cases}
 use Rattle.keeping.proofs.{Order.{Fewer, Below, Under, below-refl, under-refl, under-trans}, Unharmed.Wider}
 use Rattle.keeping.proofs.{Narrowing.{Narrows, narrows-marked, narrows-refl, narrows-free, fewer-map, fewer-seen, under-trust, under-map}, Settle.under-settle}
 

@@ -5,8 +5,9 @@ use lib.{Dec.{T, eqb, eqb→eq}, ListN.length}
 use Rattle.records.specs.{Phone.{Phone, no-certificate, no-executable}, declared.Certificate.Certificate, declared.Card.Card, declared.Executable.Executable}
 use Rattle.records.specs.{declared.Row.Row, declared.Event.Event}
 use Rattle.rules.specs.{Words.distinct, Chains.present, ImageRules.row-fits, Codes.code-of, Effects.{effect, settle, changed}}
+use Rattle.rules.specs.After.{after, after-all}
 use Rattle.laws.proofs.{Tests.or-cases, Distinct.alone, Accepted.{Occupied, Valid, Kept, Named, Stored, Accepted}}
-use Rattle.keeping.proofs.{After.{after, after-all}, CertificateMaps.free-valid, Unrefused.unrefused}
+use Rattle.keeping.proofs.{CertificateMaps.free-valid, Unrefused.unrefused}
 use Rattle.keeping.proofs.{ExecutablesKept.{executables-effect, executables-settle, settle-chained}, CertificatesKept.kept-effect, Shape.shape-changed}
 
 pub accepted-changed : (p : Phone) (e : Event) → Accepted p → T (eqb (code-of p e) 0) → Accepted (changed e p)

@@ -9,9 +9,10 @@ use Rattle.records.specs.{Sizes.event-size, Layout.{event-read, event-bytes}, P
 use Rattle.records.proofs.{Records.event-read-bytes, RoundTrip.{decode-encode, length-encode, frame}}
 use Rattle.rules.specs.{declared.Answer.Answer, Words.{first, Check, _⇒_}, ImageRules.accepted, Codes.{rows, refusals, code-of, code}, Effects.changed}
 use Rattle.rules.specs.Step.{refused, refused-at, refusal, done, Outcome, step, run}
+use Rattle.rules.specs.After.{after, after-all}
 use Rattle.laws.proofs.{Tests.{and-l, and-r, by-test, eq→eqb, neqb→ne, not-elim, first-out}, Accepts.{T-true, accepted-out, accepted-in}}
 use Rattle.laws.proofs.Marks.{Marked-by, changed-marks}
-use Rattle.keeping.proofs.{After.{after, after-all}, Shape.{shape-changed, sized-shape, mode-changed}, AcceptedKept.accepted-changed}
+use Rattle.keeping.proofs.{Shape.{shape-changed, sized-shape, mode-changed}, AcceptedKept.accepted-changed}
 use Rattle.keeping.proofs.{Settle.request-changed, Header.{fitting, length-framed, framed-fitting}}
 
 -- ---- the code

@@ -7,8 +7,9 @@ use Rattle.rules.specs.{Words.all-zero, Forms.{forms, no-form, malformed}, Acto
 use Rattle.rules.specs.Codes.{id-unknown, actor-barred, time-back, card-unknown, card-wrong, card-away, id-taken, key-elsewhere, install-of-other}
 use Rattle.rules.specs.Codes.{mark-of-other, no-such-root, another-valid, no-free-slot, never, not-permitted, cannot-replace, out-of-date, refusals, code-of}
 use Rattle.rules.specs.Effects.{effect, settle, changed}
+use Rattle.rules.specs.After.{after}
 use Rattle.laws.proofs.Tests.{and-i, not-intro, neqb→ne, first-in}
-use Rattle.keeping.proofs.{After.after, Unrefused.{Unrefused, unrefused}}
+use Rattle.keeping.proofs.{Unrefused.{Unrefused, unrefused}}
 
 -- every test of the table under one name: with a line `unfolding the-tests` they compute at a known kind
 unfoldable pub the-tests : Unit {0}

@@ -1,5 +1,4 @@
 pub mod ByKind
-pub mod After
 pub mod CertificateMaps
 pub mod Unrefused
 pub mod Naming

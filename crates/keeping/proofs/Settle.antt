@@ -4,8 +4,9 @@ use mathlib.Core.Path.{_≡_, refl, subst, subst₂, sym, ap, _∙_}
 use lib.Dec.{T, T-not}
 use Rattle.records.specs.{Phone.{Phone, with-executables}, declared.Executable.Executable, declared.Event.Event}
 use Rattle.rules.specs.{Chains.chains-to, Forms.with-kind, Effects.{request, effect, settled, settle, changed}}
+use Rattle.rules.specs.After.{after}
 use Rattle.laws.proofs.Accepted.{Accepted}
-use Rattle.keeping.proofs.{After.after, ExecutablesKept.settled-cases, Done.after-cases, Order.{Below, Over, Under, fewer-chains, below-refl}}
+use Rattle.keeping.proofs.{ExecutablesKept.settled-cases, Done.after-cases, Order.{Below, Over, Under, fewer-chains, below-refl}}
 use Rattle.keeping.proofs.Narrowing.{under-map}
 
 pub under-settle : (p : Phone) → Under (settle p) p

@@ -6,9 +6,10 @@ use lib.{Dec.{T, T-not, eqb, eqb-refl, eqb→eq}, ListN.length}
 use Rattle.records.specs.{Phone.{Trust, Phone, no-executable, with-executables, in-domain}, declared.Executable.Executable, declared.Event.Event}
 use Rattle.rules.specs.{Words.{any, at}, Chains.{chains-to, chain-domain, chain-of}, Forms.{with-kind, id-form}}
 use Rattle.rules.specs.{Codes.{is-executable, executable-known, code-of}, Effects.{verify, effect, settle, changed}, Demands.verify-event}
+use Rattle.rules.specs.After.{after, after-all}
 use Rattle.laws.proofs.{Tests.{tests, by-test, neqb→ne, not-intro}, Lists.any-in, Changes.at-cases, Accepted.{Stored, Accepted}, Shortest.chains-signed}
 use Rattle.laws.proofs.Domain.{KeysApart, chain-domain-is, chain-found, chain-small}
-use Rattle.keeping.proofs.{After.{after, after-all}, AcceptedKept.{accepted-after, accepted-after-all}}
+use Rattle.keeping.proofs.{AcceptedKept.{accepted-after, accepted-after-all}}
 use Rattle.keeping.proofs.{Done.{the-tests, unrefused-done, after-cases, nor-i}, Order.{Fewer, Below, Over, Under, fewer-chains}}
 use Rattle.keeping.proofs.Settle.{map-id, settle-still}
 

@@ -18,7 +18,7 @@ use Rattle.rules.specs.Codes.{code}
 use Rattle.rules.specs.Effects.{retired, card-rule, tick, card-in, card-out, power-up, install-certificate, delete-certificate, on-a-card, after-marking}
 use Rattle.rules.specs.Effects.{mark-valid, mark-invalid, enabled-by, message, install-executable, delete-executable, verify, permit, request, replace}
 use Rattle.rules.specs.Effects.{effect, settled, settle, changed}
-use Rattle.rules.specs.{Step.{refusal, done, step, run, answers}, Demands.{grants, withdrawing, giving}}
+use Rattle.rules.specs.{After.{after, after-all}, Step.{refusal, done, step, run, answers}, Demands.{grants, withdrawing, giving}}
 
 unfoldable pub computing : Unit {0}
 unfolding be digit put-digit decode encode header-of framed header-fits first-wrong header-fault _implies_ any all distinct all-zero find
@@ -31,5 +31,5 @@ unfolding be digit put-digit decode encode header-of framed header-fits first-wr
     card-away id-taken key-elsewhere install-of-other mark-of-other no-such-root rival another-valid no-free-slot table-byte never
     not-permitted may-replace cannot-replace out-of-date code-of code retired card-rule tick card-in card-out power-up install-certificate delete-certificate
     on-a-card after-marking mark-valid mark-invalid enabled-by message install-executable delete-executable verify permit request replace effect
-    settled settle changed refusal done step run answers grants withdrawing giving
+    settled settle changed after after-all refusal done step run answers grants withdrawing giving
 computing = tt

@@ -3,8 +3,7 @@
 use Prim.Native.Nat.{ℕ}
 use mathlib.Core.{Bool.true, List.{List, [], _∷_, _++_, map}, Path.{_≡_, refl}}
 use Rattle.octets.specs.Octets.{bytes, put}
-use Rattle.records.specs.Phone.{decode}
-use Rattle.rules.specs.{Words.first, ImageRules.accepted, Codes.event-rows, Step.run, Computing.computing}
+use Rattle.rules.specs.{Words.first, ImageRules.accepted, Codes.event-rows, After.behind, Computing.computing}
 
 -- ---- three phones at clock 100 with a given card present: each has a free certificate slot, and cards 1 and 2 of operators 5 and 6
 
@@ -408,8 +407,8 @@ examples =
 -- the codes that the rules give to the two events; I1 to I8 are asked below, of each phone once
 abbrev pub heard : Example → List ℕ
 heard x =
-    first (event-rows (decode (run (x .start) (x .before))) (x .event))
-    ∷ first (event-rows (decode (run (x .start) (x .done-before))) (x .done))
+    first (event-rows (behind (x .start) (x .before)) (x .event))
+    ∷ first (event-rows (behind (x .start) (x .done-before)) (x .done))
     ∷ []
 
 -- one list under one claim: the one event gets the code, the other is done

@@ -9,6 +9,7 @@ pub mod Actors
 pub mod Forms
 pub mod Codes
 pub mod Effects
+pub mod After
 pub mod Step
 pub mod Demands
 pub mod Computing

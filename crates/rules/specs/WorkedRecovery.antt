@@ -3,8 +3,8 @@ use Prim.Native.Nat.{ℕ}
 use mathlib.Core.{List.{List, [], _∷_}, Path.{_≡_, refl}}
 use lib.ListN.{take}
 use Rattle.octets.specs.Octets.{bytes}
-use Rattle.records.specs.Phone.{decode, certificate-at}
-use Rattle.rules.specs.{declared.Answer.Answer, Step.{run, answers}, Computing.computing, WorkedRun.image}
+use Rattle.records.specs.Phone.{certificate-at}
+use Rattle.rules.specs.{declared.Answer.Answer, After.behind, Step.answers, Computing.computing, WorkedRun.image}
 
 -- executable 1 asks for action 1; recovery record 40 is installed beside root 10; the root is replaced with it; executable 1 asks and is verified;
 -- certificate 11, issued under the old key, is deleted and issued anew under the new one; executable 1 is verified and asks; then a replace with the
@@ -33,13 +33,13 @@ unfolding computing
 lost-key-replaced = refl
 
 -- "The root keeps its id and slot, takes the new key, owner and expiry, and is marked valid."
-pub root-afterwards : certificate-at (decode (run image (take 3 events))) 0
+pub root-afterwards : certificate-at (behind image (take 3 events)) 0
     ≡ record { id = 10; place = 0; kind = 0; domain = 1; mark = 1; enabled = 1; key = 1002; verifying = 0; owner = 500; expiry = 900 }
 unfolding computing
 root-afterwards = refl
 
 -- "phone only, domain 1 or 2, verifying key 0, mark 0, enabled 1": as it is installed
-pub recovery-installed : certificate-at (decode (run image (take 2 events))) 3
+pub recovery-installed : certificate-at (behind image (take 2 events)) 3
     ≡ record { id = 40; place = 0; kind = 2; domain = 1; mark = 0; enabled = 1; key = 4000; verifying = 0; owner = 500; expiry = 0 }
 unfolding computing
 recovery-installed = refl

@@ -3,8 +3,7 @@ use Prim.Native.Nat.{ℕ}
 use mathlib.Core.{Bool.true, List.{List, [], _∷_, _++_, map}, Path.{_≡_, refl, ap, _∙_}}
 use lib.ListN.{length, getD, take}
 use Rattle.octets.specs.Octets.{bytes, put}
-use Rattle.records.specs.Phone.{decode}
-use Rattle.rules.specs.{declared.Answer.Answer, ImageRules.accepted, Codes.certificate-named, Step.{run, answers}, Computing.computing}
+use Rattle.rules.specs.{declared.Answer.Answer, ImageRules.accepted, Codes.certificate-named, After.behind, Step.answers, Computing.computing}
 
 -- the image: header, certificates 10, 11, 20 and a free slot, cards 1 and 2, executable 1 and a free slot, table
 abbrev pub image : List ℕ
@@ -73,15 +72,15 @@ run-as-printed = refl
 abbrev card-1-in : List ℕ
 card-1-in = bytes 24 0x02_00_0000_0001_00_00_00000000_00000000_00000000_00000000
 
--- the mark of the phone's key 10 in an image, and when card 1, of its own operator, comes then
-abbrev marks-of-10 : List ℕ → List ℕ
-marks-of-10 l = certificate-named (decode l) 10 .mark ∷ certificate-named (decode (run l (card-1-in ∷ []))) 10 .mark ∷ []
-
--- which the run itself does not print: "Setting the phone's key valid again when the card leaves" is a trap, and key 10 stays invalid after event 10;
--- "No rule marks a key valid by itself.": nor does the card of its own operator
-pub phone-key-stays-invalid : marks-of-10 (run image (take 10 events)) ≡ (0 ∷ 0 ∷ [])
+-- which the run itself does not print: "Setting the phone's key valid again when the card leaves" is a trap, and key 10 stays invalid after event 10
+pub phone-key-stays-invalid : certificate-named (behind image (take 10 events)) 10 .mark ≡ 0
 unfolding computing
 phone-key-stays-invalid = refl
+
+-- "No rule marks a key valid by itself.": nor does the card of its own operator, card 1, which comes then
+pub no-card-revives : certificate-named (behind image (take 10 events ++ (card-1-in ∷ []))) 10 .mark ≡ 0
+unfolding computing
+no-card-revives = refl
 
 -- ---- "Boundaries, marked P"
 
@@ -193,12 +192,12 @@ pub boundaries-hold : map heard boundaries ≡ map (λ b. b .expected) boundarie
 boundaries-hold = ap (λ run. seven run (map heard others)) run-as-printed ∙ ap (seven lines) others-hold
 
 -- "Marks are not touched when a date passes.": root 10 a second later
-pub mark-stays : certificate-named (decode (run short-root (clock-151 ∷ []))) 10 .mark ≡ 1
+pub mark-stays : certificate-named (behind short-root (clock-151 ∷ [])) 10 .mark ≡ 1
 unfolding computing put
 mark-stays = refl
 
 -- the card rule's effect is on every operator root on the phone, past its date or not: card 2 comes, and takes that mark
-pub expired-mark-goes : certificate-named (decode (run short-root (clock-151 ∷ getD events 8 [] ∷ []))) 10 .mark ≡ 0
+pub expired-mark-goes : certificate-named (behind short-root (clock-151 ∷ getD events 8 [] ∷ [])) 10 .mark ≡ 0
 unfolding computing put
 expired-mark-goes = refl
 
