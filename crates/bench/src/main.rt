@@ -1,5 +1,7 @@
 // Reads an image and then events from standard input, and writes a line for each event: its number, its kind and its
 // answer. All that decides is in the libraries.
+#![tactic(auto)]
+
 ghost use Rattle.std.specs.Prelude.{◌≡◌, length, ◌≤◌};
 ghost use Rattle.records.specs.Sizes.{event_size};
 ghost use Rattle.rules.specs.AcceptedImage.{AcceptedImage};

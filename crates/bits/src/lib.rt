@@ -1,4 +1,6 @@
 // One action's bit in a word of 32: tested, set and cleared by a shift and a mask. Words of 64 are in `slots`.
+#![tactic(auto)]
+
 pub mod slots;
 
 ghost use Rattle.std.specs.Prelude.{◌≡◌, ◌<◌};

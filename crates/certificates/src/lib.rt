@@ -1,4 +1,6 @@
 // Kinds 5 to 9 and 16, certificates: the decision, and where it is 0 the effect and the settling, where a chain can break.
+#![tactic(auto)]
+
 mod decisions;
 mod effects;
 

@@ -1,4 +1,6 @@
 // What a signing key chains to, which executables still chain, and whether a change can break a chain. The search itself is in `search`.
+#![tactic(auto)]
+
 mod search;
 
 ghost use Rattle.std.specs.Prelude.{◌<◌, ◌≤◌, length, ◌≡◌, T};
@@ -18,7 +20,7 @@ use records::{Certificate, Executable, image};
 use rules::Chained;
 
 // The good slots of each domain.
-#[derive(Drop)]
+#[derive(Clone, Copy)]
 struct GoodByDomain {
     operator: u64,
     manufacturer: u64,

@@ -18,14 +18,14 @@ use records::{Certificate, Executable, image};
 pub const MOST_LINKS: u8 = 4;
 
 // The slots of a domain that count: its trusted roots and its links.
-#[derive(Drop)]
+#[derive(Clone, Copy)]
 struct Sorted {
     roots: u64,
     links: u64,
 }
 
 // What one level of the search back from a key found: a trusted root, or else its links.
-#[derive(Drop)]
+#[derive(Clone, Copy)]
 struct Level {
     found: bool,
     links: u64,

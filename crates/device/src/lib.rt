@@ -1,4 +1,6 @@
 // Kinds 1 to 4, the clock and the card: the decision, and where it is 0 the effect and the settling, where a chain can break.
+#![tactic(auto)]
+
 mod decisions;
 mod effects;
 

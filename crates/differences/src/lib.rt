@@ -1,5 +1,7 @@
 // What `bench` would write of the answers of a stored case, held against what is stored, and so the image afterwards: what
 // differs is said.
+#![tactic(auto)]
+
 ghost use Rattle.std.specs.Prelude.{◌+◌, ◌≤◌, ◌<◌, true, ◌≡◌, length, take};
 ghost use Rattle.octets.specs.Octets.{put};
 ghost use Rattle.differences.specs.Compared.{FirstDifference, Differ};
@@ -11,7 +13,7 @@ use records::{Card, Certificate, Event, Executable, Header, Row};
 use rules::Answer;
 
 // The ways: a run with room for every answer, runs with room for seven answers each, and a step for each event.
-#[derive(Drop)]
+#[derive(Clone, Copy)]
 pub enum Way {
     Whole,
     Pieces,
@@ -145,7 +147,7 @@ fn first_difference(a: &[u8], b: &[u8]) -> usize
 }
 
 // A line of a text: which it is, the first one counted 1, and where it begins.
-#[derive(Drop)]
+#[derive(Clone, Copy)]
 struct Line {
     number: usize,
     start: usize,

@@ -1,4 +1,6 @@
 // One step of the monitor: an event on an image, its answer and the image after it.
+#![tactic(auto)]
+
 ghost use Rattle.std.specs.Prelude.{length, ◌≡◌};
 ghost use Rattle.events.specs.Stepped.{Stepped, SteppedAccepted};
 ghost use Rattle.handling.specs.Handled.{Handled};

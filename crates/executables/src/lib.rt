@@ -1,4 +1,6 @@
 // Kinds 10 to 15, executables: no chain can be touched, so that there is nothing to settle.
+#![tactic(auto)]
+
 mod decisions;
 mod effects;
 

@@ -1,4 +1,6 @@
 // What the handlers of all kinds share: the plan of an event, its answer, how it ends, and the marks of the phone that give way to a card.
+#![tactic(auto)]
+
 ghost use Rattle.std.specs.Prelude.{ℕ, false, ◌≡◌};
 ghost use Rattle.records.specs.Phone.{decode, encode};
 ghost use Rattle.records.specs.Frame.{Framed};
@@ -12,7 +14,7 @@ use records::{Certificate, image};
 use rules::Answer;
 
 // What is decided of an event that names a record or needs room for one: it is refused with a code, or it is about a slot.
-#[derive(Drop)]
+#[derive(Clone, Copy)]
 pub enum Plan {
     Refused(u8),
     On(usize),

@@ -81,12 +81,12 @@ module _ (l : List ℕ) where
 -- ---- a field that is named lies in the header
 
 abbrev byte_of : Field → ℕ
-byte_of (n right-if b) = n
+byte_of (n right_if b) = n
 
 first_wrong_small : (fs : List Field) (last : ℕ) → T (all (λ f. leb (byte_of f) header_size) fs) → last ≤ header_size → first_wrong fs last ≤ header_size
 unfolding first_wrong all
 first_wrong_small [] last h k = k
-first_wrong_small ((n right-if b) ∷ fs) last h k =
+first_wrong_small ((n right_if b) ∷ fs) last h k =
     go b (first_wrong_small fs last (and_r (leb n header_size) (all (λ f. leb (byte_of f) header_size) fs) h) k)
   where
     go : (b : Bool) {m : ℕ} → m ≤ header_size → cond b m n ≤ header_size
@@ -197,15 +197,15 @@ module _ (l : List ℕ) where
 
 -- ---- the first wrong field of a header
 
-first_is_wrong : (fs : List Field) (last : ℕ) (b : Bool) → all is_right (fs ++ ((last right-if b) ∷ [])) ≡ false
-    → WrongField (fs ++ ((last right-if b) ∷ [])) (first_wrong fs last)
+first_is_wrong : (fs : List Field) (last : ℕ) (b : Bool) → all is_right (fs ++ ((last right_if b) ∷ [])) ≡ false
+    → WrongField (fs ++ ((last right_if b) ∷ [])) (first_wrong fs last)
 unfolding all first_wrong
 first_is_wrong [] last false e = record { before = []; after = []; stands = refl; right_before = refl }
 first_is_wrong [] last true e = absurd (true≢false e)
-first_is_wrong ((n right-if false) ∷ fs) last b e = record { before = []; after = fs ++ ((last right-if b) ∷ []); stands = refl; right_before = refl }
-first_is_wrong ((n right-if true) ∷ fs) last b e =
+first_is_wrong ((n right_if false) ∷ fs) last b e = record { before = []; after = fs ++ ((last right_if b) ∷ []); stands = refl; right_before = refl }
+first_is_wrong ((n right_if true) ∷ fs) last b e =
     let w = first_is_wrong fs last b e in
-    record { before = (n right-if true) ∷ w.before; after = w.after; stands = ap (λ gs. (n right-if true) ∷ gs) w.stands; right_before = w.right_before }
+    record { before = (n right_if true) ∷ w.before; after = w.after; stands = ap (λ gs. (n right_if true) ∷ gs) w.stands; right_before = w.right_before }
 
 module _ (l : List ℕ) where
   -- they are all that I1 asks of a header

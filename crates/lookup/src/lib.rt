@@ -1,4 +1,6 @@
 // Records found: a certificate or an executable by its id, a card by its number, and what the rules ask of them.
+#![tactic(auto)]
+
 ghost use Rattle.std.specs.Prelude.{◌≤◌, eqb, length, ◌&&◌, ◌≡◌};
 ghost use Rattle.lookup.specs.RoomForOne.{Passed, certificate_room, executable_room};
 ghost use Rattle.lookup.specs.RecordFound.{found};
@@ -12,7 +14,7 @@ ghost use Rattle.rules.specs.Words.{any, first_place};
 use records::{Certificate, image};
 
 // A record looked for: the slot where it stands, or nowhere.
-#[derive(Drop)]
+#[derive(Clone, Copy)]
 pub enum Found {
     At(usize),
     Nowhere,
@@ -79,7 +81,7 @@ pub fn executable_slot(s: &[u8], id: u16) -> Found
 }
 
 // What an install of an executable finds: its id taken, no free slot, or the lowest free one.
-#[derive(Drop)]
+#[derive(Clone, Copy)]
 pub enum Room {
     Taken,
     Full,
@@ -111,7 +113,7 @@ pub fn executable_room(s: &[u8], id: u16) -> Room
 }
 
 // The same for a certificate, which may also find that one of another domain has its key.
-#[derive(Drop)]
+#[derive(Clone, Copy)]
 pub enum CertificateRoom {
     Taken,
     Elsewhere,

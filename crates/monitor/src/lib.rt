@@ -1,5 +1,7 @@
 // The library that a simulator links: opening an image, one event on it, a run of events, why an executable has its domain or has none, and the
 // events of a timeline.
+#![tactic(auto)]
+
 ghost use Rattle.std.specs.Prelude.{◌≡◌, ◌+◌, ◌*◌, ◌≤◌, length, take, drop, replicate};
 ghost use Rattle.octets.specs.Octets.{put};
 ghost use Rattle.records.specs.Sizes.{event_size};

@@ -1,4 +1,6 @@
 // Numbers of one, two and four bytes in a slice, most significant byte first, and runs of zeros.
+#![tactic(auto)]
+
 ghost use Rattle.std.specs.Prelude.{◌≡◌, ◌+◌, ◌<◌, ◌≤◌, eqb, length, set};
 ghost use Rattle.octets.specs.Octets.{be8, be16, be32, bytes, put, zeros};
 

@@ -1,4 +1,6 @@
 // Opening an image: the first of the rules I1 to I8 that is broken, and where. They are tested in their order, one small function a rule.
+#![tactic(auto)]
+
 mod sweeps;
 
 ghost use Rattle.std.specs.Prelude.{true, cond, ◌≡◌, ◌+◌, ◌*◌, T, eqb, ltb, length};
@@ -199,7 +201,7 @@ pub fn open(s: &[u8]) -> Fault
 // ---- what is told of it
 
 // Where the record of a site stands: which one it is of those of a size, from a byte on.
-#[derive(Drop)]
+#[derive(Clone, Copy)]
 struct Span {
     at: usize,
     size: usize,

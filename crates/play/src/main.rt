@@ -1,5 +1,7 @@
 // Reads an image and then a timeline from standard input, and writes a line for each event as `bench` does, the clock
 // events that are put in among them. All that decides is in the libraries.
+#![tactic(auto)]
+
 ghost use Rattle.std.specs.Prelude.{length, ◌*◌, ◌≤◌};
 ghost use Rattle.records.specs.Sizes.{event_size};
 ghost use Rattle.rules.specs.AcceptedImage.{AcceptedImage};

@@ -1,4 +1,6 @@
 // Why an executable has its domain or has none, in lines of three bytes: what is said, and the id of a record.
+#![tactic(auto)]
+
 mod slots;
 
 ghost use Rattle.std.specs.Prelude.{[], ◌∷◌, ◌++◌, ◌≡◌, ◌+◌, ◌*◌, ◌≤◌, ◌<◌, min, length, take};
@@ -208,7 +210,7 @@ fn explain_on(s: &[u8], x: Executable, lines: &mut [u8]) -> usize
 }
 
 // What a question gets: code 0, 1 or 3, for 1 the broken rule and where, and the number of lines that there are.
-#[derive(Drop)]
+#[derive(Clone, Copy)]
 pub struct Why {
     pub code: u8,
     pub rule: u8,

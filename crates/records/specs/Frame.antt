@@ -44,32 +44,32 @@ pub data Field : Type 0 where
 -- the first byte of the first field that is wrong, and of the last where those before it are right
 unfoldable pub first_wrong : List Field → ℕ → ℕ
 first_wrong [] last = last
-first_wrong ((byte right-if b) ∷ l) last = cond b (first_wrong l last) byte
+first_wrong ((byte right_if b) ∷ l) last = cond b (first_wrong l last) byte
 
 -- I1's fields in the order of its sentence, those that can be wrong: where the parts are
 abbrev pub part_fields_by : Sizes → List ℕ → List Field
 part_fields_by z l =
-    (20 right-if eqb (certificates_at l) certificates_start)
-    ∷ (24 right-if eqb (cards_at l) (cards_from_by z l))
-    ∷ (28 right-if eqb (executables_at l) (executables_from_by z l))
-    ∷ (32 right-if eqb (table_at l) (table_from_by z l))
+    (20 right_if eqb (certificates_at l) certificates_start)
+    ∷ (24 right_if eqb (cards_at l) (cards_from_by z l))
+    ∷ (28 right_if eqb (executables_at l) (executables_from_by z l))
+    ∷ (32 right_if eqb (table_at l) (table_from_by z l))
     ∷ []
 
 -- the same from the number of actions on
 abbrev pub setting_fields_by : Sizes → List ℕ → List Field
 setting_fields_by z l =
-    (8 right-if (leb 1 (action_count l) && leb (action_count l) most_actions))
-    ∷ (10 right-if leb (standing_mode l) highest_mode)
-    ∷ (14 right-if eqb (header_zero l) 0)
+    (8 right_if (leb 1 (action_count l) && leb (action_count l) most_actions))
+    ∷ (10 right_if leb (standing_mode l) highest_mode)
+    ∷ (14 right_if eqb (header_zero l) 0)
     ∷ part_fields_by z l
 
 -- the same from the version on, all but the total
 abbrev pub header_fields_by : Sizes → List ℕ → List Field
 header_fields_by z l =
-    (0 right-if eqb (version l) z.version)
-    ∷ (2 right-if leb (certificate_slots l) most_certificates)
-    ∷ (4 right-if leb (card_count l) most_cards)
-    ∷ (6 right-if leb (executable_slots l) most_executables)
+    (0 right_if eqb (version l) z.version)
+    ∷ (2 right_if leb (certificate_slots l) most_certificates)
+    ∷ (4 right_if leb (card_count l) most_cards)
+    ∷ (6 right_if leb (executable_slots l) most_executables)
     ∷ setting_fields_by z l
 
 abbrev pub total_byte : ℕ
@@ -77,7 +77,7 @@ total_byte = 36
 
 -- "The total is the table's end and the buffer's length."
 abbrev pub total_field_by : Sizes → List ℕ → Field
-total_field_by z l = total_byte right-if (eqb (total_length l) (ends_at_by z l) && eqb (length l) (ends_at_by z l))
+total_field_by z l = total_byte right_if (eqb (total_length l) (ends_at_by z l) && eqb (length l) (ends_at_by z l))
 
 -- of the newest version
 abbrev pub part_fields : List ℕ → List Field

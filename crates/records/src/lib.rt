@@ -1,5 +1,7 @@
 // The records of an image and of an event: sizes, offsets and what a field may say as constants of each record, and readers of a whole
 // record and of one field.
+#![tactic(auto)]
+
 pub mod image;
 
 ghost use Rattle.std.specs.Prelude.{◌≡◌, ◌+◌, ◌≤◌, length};
@@ -28,7 +30,7 @@ pub const DISABLED: u8 = 0;
 pub const ENABLED: u8 = 1;
 
 // The header of an image, which is never held as a whole.
-#[derive(Drop)]
+#[derive(Clone, Copy)]
 pub struct Header {}
 
 impl Header {
@@ -169,7 +171,7 @@ impl Header {
 }
 
 // A certificate, or a free slot where all is 0.
-#[derive(Drop)]
+#[derive(Clone, Copy)]
 pub struct Certificate {
     pub id: u16,
     pub place: u16,
@@ -340,7 +342,7 @@ impl Certificate {
 }
 
 // A card that the phone knows; `blank` is the zero between its fields.
-#[derive(Drop)]
+#[derive(Clone, Copy)]
 pub struct Card {
     pub number: u16,
     pub blank: u16,
@@ -392,7 +394,7 @@ impl Card {
 }
 
 // An executable, or a free slot where all is 0; `blank` is the zero between its fields.
-#[derive(Drop)]
+#[derive(Clone, Copy)]
 pub struct Executable {
     pub id: u16,
     pub domain: u8,
@@ -477,7 +479,7 @@ impl Executable {
 }
 
 // A row of the action table: a byte for each domain.
-#[derive(Drop)]
+#[derive(Clone, Copy)]
 pub struct Row {
     pub untrusted: u8,
     pub operator: u8,
@@ -547,7 +549,7 @@ impl Row {
 }
 
 // An event.
-#[derive(Drop)]
+#[derive(Clone, Copy)]
 pub struct Event {
     pub kind: u8,
     pub actor: u8,

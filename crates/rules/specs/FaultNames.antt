@@ -14,7 +14,7 @@ rules l =
 -- ---- I1
 
 abbrev pub is_right : Field → Bool
-is_right (byte right-if b) = b
+is_right (byte right_if b) = b
 
 -- its fields in the order of its sentence, the total last
 abbrev pub i1_fields : List ℕ → List Field
@@ -24,7 +24,7 @@ i1_fields l = header_fields l ++ (total_field l ∷ [])
 pub record WrongField (fs : List Field) (byte : ℕ) : Type 0 where
   pub before : List Field
   pub after : List Field
-  pub stands : fs ≡ before ++ ((byte right-if false) ∷ after)
+  pub stands : fs ≡ before ++ ((byte right_if false) ∷ after)
   pub right_before : all is_right before ≡ true
 
 -- ---- I2 to I8

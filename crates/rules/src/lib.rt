@@ -1,7 +1,8 @@
 // What is told of an event and of a key. The rules themselves are definitions: they stand in specs/.
+#![tactic(auto)]
 
 // "The answer is code, domain, links"; "the answer gains two numbers", where the image is wrong.
-#[derive(Drop)]
+#[derive(Clone, Copy)]
 pub struct Answer {
     pub code: u8,
     pub domain: u8,
@@ -11,7 +12,7 @@ pub struct Answer {
 }
 
 // Where an image is wrong: a field of the header by its first byte, or a record by its number.
-#[derive(Drop)]
+#[derive(Clone, Copy)]
 pub enum Site {
     Header(usize),
     Certificate(usize),
@@ -21,14 +22,14 @@ pub enum Site {
 }
 
 // The first broken rule, 1 to 8, and where: 0 and the image's first byte where none is broken.
-#[derive(Drop)]
+#[derive(Clone, Copy)]
 pub struct Fault {
     pub rule: u8,
     pub site: Site,
 }
 
 // What a signing key chains to: the domain and the link count, 0 and 0 where there is no chain.
-#[derive(Drop)]
+#[derive(Clone, Copy)]
 pub struct Chained {
     pub domain: u8,
     pub links: u8,

@@ -1,4 +1,6 @@
 // What the programs share: an image as it comes from a descriptor, and what they write, put into a buffer. Nothing is judged here.
+#![tactic(auto)]
+
 ghost use Rattle.std.specs.Prelude.{◌+◌, ◌≤◌, ◌≡◌, length};
 ghost use Rattle.octets.specs.Octets.{put};
 ghost use Rattle.records.specs.Sizes.{largest_image};

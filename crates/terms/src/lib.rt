@@ -1,4 +1,6 @@
 // One record, or two: what the rules ask of them. The forms of events are in `forms`, who may act in `actors`.
+#![tactic(auto)]
+
 pub mod actors;
 pub mod forms;
 

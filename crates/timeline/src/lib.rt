@@ -1,4 +1,6 @@
 // A lesson's timeline: its form, and its events with the clock events put in. Nothing is run here.
+#![tactic(auto)]
+
 ghost use Rattle.std.specs.Prelude.{true, ◌≡◌, ◌+◌, ◌*◌, ◌<◌, ◌≤◌, length};
 ghost use Rattle.records.specs.Sizes.{event_size};
 ghost use Rattle.records.specs.Layout.{event_bytes};
@@ -154,7 +156,7 @@ fn put_records(events: &mut [u8], t: &[u8], clock: u32) -> usize
 }
 
 // What is told of a timeline: code 0, 1 or 19, for 1 the broken rule of the image and where, and how many events there are.
-#[derive(Drop)]
+#[derive(Clone, Copy)]
 pub struct Unrolled {
     pub code: u8,
     pub rule: u8,

@@ -3,6 +3,8 @@
 // NAME.fin the image afterwards. With a word on its command line each case goes three ways, as callers may: one run, runs
 // with room for few answers, and single steps. These open an image again and again, so that a program that is not
 // optimised takes long.
+#![tactic(auto)]
+
 mod coverage;
 
 ghost use Rattle.std.specs.Prelude.{◌+◌, ◌/◌, ◌≤◌, ◌<◌, min, ◌≡◌, length};

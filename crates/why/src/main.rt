@@ -1,6 +1,8 @@
 // Says why an executable has its domain or has none. It reads an image from standard input as bench does, runs as many
 // of the events behind it as it is told to, and writes a sentence for each line of the explanation. All that decides is
 // in the libraries.
+#![tactic(auto)]
+
 ghost use Rattle.std.specs.Prelude.{◌≡◌, ◌+◌, ◌*◌, ◌≤◌, eqb, length};
 ghost use Rattle.octets.specs.Octets.{put};
 ghost use Rattle.records.specs.Sizes.{event_size};
@@ -208,7 +210,7 @@ fn explain(id: u16, events: u64) {
 // ---- a word of the command line
 
 // The number that it tells, or that it tells none.
-#[derive(Drop)]
+#[derive(Clone, Copy)]
 enum Number {
     Is(u64),
     Nothing,

@@ -1,0 +1,6 @@
+use borrow.Author.Rules.{rules}
+use Rattle.bits.proofs.BitLaws.{or_put}
+use Rattle.bits.proofs.slots.with_slot.Goals as goal
+
+pub returns : goal.returns
+returns c = or_put 64 c.args.w c.args.i c.requires

@@ -1,0 +1,5 @@
+use borrow.Author.Rules.{rules}
+use Rattle.records.proofs.Certificate.read.Goals as goal
+
+pub returns : goal.returns
+returns c = cc

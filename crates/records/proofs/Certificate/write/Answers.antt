@@ -1,0 +1,8 @@
+use native.Mathlib.Omega.{arith}
+use Rattle.records.proofs.Puts.{put_next}
+use borrow.Author.Rules.{rules}
+use Rattle.records.proofs.Certificate.write.Goals as goal
+
+pub returns : goal.returns
+returns c =
+    rw (c.write_words.ensures, c.write_small.ensures) (put_next _ _ _ _ (omega arith))

@@ -1,0 +1,8 @@
+use native.Mathlib.Omega.{arith}
+use Rattle.records.proofs.Puts.{done, more, written_from}
+use borrow.Author.Rules.{rules}
+use Rattle.records.proofs.Certificate.write_words.Goals as goal
+
+pub returns : goal.returns
+returns c =
+    written_from (more c.write32.ensures (more c.write32-2.ensures (more c.write32-3.ensures (more c.write32-4.ensures done)))) (omega arith)

@@ -1,0 +1,6 @@
+use borrow.Author.Rules.{rules}
+use Rattle.records.proofs.Executable.read.Goals as goal
+
+pub returns : goal.returns
+returns c =
+    rw (c.id.ensures, c.domain.ensures, c.blank.ensures, c.signing.ensures, c.permissions.ensures)

@@ -1,0 +1,7 @@
+use mathlib.Core.Path.{◌∙◌}
+use Rattle.records.proofs.Said.{card_said}
+use borrow.Author.Rules.{rules}
+use Rattle.records.proofs.image.card.Goals as goal
+
+pub returns : goal.returns
+returns c = c.read.ensures ∙ search card_said

@@ -1,0 +1,7 @@
+use Rattle.records.specs.Phone.{decode}
+use borrow.Author.Rules.{rules}
+use Rattle.records.proofs.image.card_present.Goals as goal
+
+pub returns : goal.returns
+unfolding decode
+returns c = search rules

@@ -1,0 +1,7 @@
+use Rattle.records.specs.Frame.{header_fits}
+use borrow.Author.Rules.{rules}
+use Rattle.records.proofs.image.header_fits.Goals as goal
+
+pub returns : goal.returns
+unfolding header_fits
+returns c = cc

@@ -1,0 +1,7 @@
+use mathlib.Core.Path.{◌∙◌}
+use Rattle.records.proofs.FramedWrites.{domain_written}
+use borrow.Author.Rules.{rules}
+use Rattle.records.proofs.image.set_domain.Goals as goal
+
+pub returns : goal.returns
+returns c = c.write8.ensures ∙ search domain_written

@@ -1,0 +1,7 @@
+use mathlib.Core.Path.{◌∙◌}
+use Rattle.records.proofs.FramedWrites.{enabled_written}
+use borrow.Author.Rules.{rules}
+use Rattle.records.proofs.image.set_enabled.Goals as goal
+
+pub returns : goal.returns
+returns c = c.write8.ensures ∙ search enabled_written
