@@ -19,7 +19,7 @@ ascending k [] = true
 ascending k ((b ⇒ n) ∷ l) = leb k n && ascending n l
 
 -- the number given lies between k and that of any row that applies
-pub first_lowest : {l : List Check} {n : ℕ} (k : ℕ) → T (ascending k l) → Applies n l → (k ≤ first l) × (first l ≤ n)
+pub first_lowest : {n : ℕ} {l : List Check} (k : ℕ) → T (ascending k l) → Applies n l → (k ≤ first l) × (first l ≤ n)
 unfolding first
 first_lowest {n} k a (here {b = true} {l} t) = (leb→le k n (and_l (leb k n) (ascending n l) a), omega arith)
 first_lowest k a (here {b = false} {l} t) = absurd t

@@ -1,0 +1,8 @@
+use borrow.{Author.Tests.{eq-eqb, ne_eqb}, Author.Rules.rules}
+use Rattle.terms.proofs.slot_fits.Goals as goal
+
+pub returns-then-c-eq0 : goal.returns-then-c-eq0
+returns-then-c-eq0 c = rw (eq-eqb _ 0 c.if-c-eq0.true) c.zero_certificate.ensures
+
+pub returns : goal.returns
+returns c = rw (ne_eqb _ 0 c.if-c-eq0.false) c.certificate_fits.ensures

@@ -1,0 +1,7 @@
+use Rattle.rules.specs.ImageRules.{valid_in}
+use borrow.Author.Rules.{rules}
+use Rattle.terms.proofs.valid_in.Goals as goal
+
+pub returns : goal.returns
+unfolding valid_in
+returns c = rw c.valid_root.ensures
