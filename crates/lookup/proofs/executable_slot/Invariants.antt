@@ -1,0 +1,17 @@
+use native.{Mathlib.Nat.zero-add, Mathlib.Omega.arith}
+use borrow.Author.Rules.{rules}
+use Prim.Native.Nat.{ℕ, ◌+◌, ◌≤◌, ◌-◌}
+use lib.ListN.{length}
+use mathlib.Core.Path.{◌≡◌, sym, ◌∙◌}
+use Rattle.records.specs.Phone.{decode, no_executable}
+use Rattle.rules.specs.Codes.{is_executable}
+use Rattle.lookup.specs.RoomForOne.{Passed}
+use Rattle.laws.proofs.Places.{place_next, place_past}
+use Rattle.lookup.proofs.FoundSlot.{found_here}
+use Rattle.lookup.proofs.executable_slot.Given as goal
+
+abbrev pub invariant-loop-i : goal.invariant-loop-i
+invariant-loop-i l = (l.i ≤ l.slots) × (l.slots ≡ length (decode l.s).executables) × Passed (is_executable l.id) (decode l.s).executables l.i
+
+abbrev pub decreases-loop-i : goal.decreases-loop-i
+decreases-loop-i l = l.slots - l.i

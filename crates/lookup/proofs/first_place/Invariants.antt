@@ -1,0 +1,16 @@
+use native.{Mathlib.Nat.zero-add, Mathlib.Omega.arith}
+use borrow.Author.Rules.{rules}
+use Prim.Native.Nat.{◌≤◌, ◌-◌}
+use lib.ListN.{length}
+use mathlib.Core.Path.{◌≡◌, sym, ◌∙◌}
+use Rattle.records.specs.Phone.{decode, no_certificate}
+use Rattle.rules.specs.Codes.{has_id}
+use Rattle.lookup.specs.RoomForOne.{Passed}
+use Rattle.laws.proofs.Places.{place_here, place_next, place_end}
+use Rattle.lookup.proofs.first_place.Given as goal
+
+abbrev pub invariant-loop-i : goal.invariant-loop-i
+invariant-loop-i l = (l.i ≤ l.slots) × (l.slots ≡ length (decode l.s).trust.certificates) × Passed (has_id l.id) (decode l.s).trust.certificates l.i
+
+abbrev pub decreases-loop-i : goal.decreases-loop-i
+decreases-loop-i l = l.slots - l.i
