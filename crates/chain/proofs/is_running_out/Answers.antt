@@ -5,8 +5,7 @@ use borrow.Author.Rules.{rules}
 use Rattle.records.specs.declared.Certificate.{Certificate}
 use Rattle.rules.specs.Chains.{in_date}
 use Rattle.chain.specs.Breaks.{runs_out}
-use Rattle.chain.proofs.is_running_out.Statement.{statement}
-use Rattle.chain.proofs.is_running_out.Tie as tie
+use Rattle.chain.proofs.is_running_out.Goals as goal
 
 module _ (clock n : ℕ) (c : Certificate) {b : Bool} (q : b ≡ in_date n c) where
   -- b: whether it is in date at n too
@@ -32,13 +31,9 @@ module _ (clock n : ℕ) (c : Certificate) {b : Bool} (q : b ≡ in_date n c) wh
       ∙ ap (λ b. eqb c.mark 1 && in_date clock c && not b) (sym h)
       ∙ at_later (eqb c.mark 1 && in_date clock c)
 
-returns : tie.Need-returns
-returns c = still _ _ _ c.before.in-date.ensures c.if1.true
+pub returns-then-in_date : goal.returns-then-in_date
+returns-then-in_date c = still _ _ _ c.in_date.ensures c.if-in_date.true
 
-returns-2 : tie.Need-returns-2
-returns-2 c =
-    let e = c.before.before in
-    over _ _ _ e.before.in-date.ensures e.if1.false c.in-date2.ensures
-
-pub is-running-out-spec : {M : Type 1} → statement M
-is-running-out-spec = tie.close (tie.spec (λ c κs. search rules) returns (λ c κs. search rules) returns-2)
+pub returns : goal.returns
+returns c =
+    over _ _ _ c.in_date.ensures c.if-in_date.false c.in_date-2.ensures

@@ -1,0 +1,21 @@
+use mathlib.Core.Path.{◌∙◌}
+use native.Mathlib.Omega.{arith}
+use Rattle.chain.proofs.Levels.{level_fits, least_none, climb_found, climb_small, climb_on}
+use borrow.Author.Rules.{rules}
+use Rattle.chain.proofs.search.links_within.Goals as goal
+
+pub returns-then-n-eq0 : goal.returns-then-n-eq0
+returns-then-n-eq0 c = least_none _ _ c.if-n-eq0.true
+
+pub returns-then-first : goal.returns-then-first
+returns-then-first c = climb_found _ _ _ _ c.sweep-first.ensures _ c.if-n-eq0.false c.if-first.true
+
+pub climb-requires-clause-level_bound : goal.climb-requires-clause-level_bound
+climb-requires-clause-level_bound c = level_fits _ _ _ _ c.sweep-first.ensures
+
+pub one_more-requires : goal.one_more-requires
+one_more-requires c = climb_small _ _ _ c.climb.ensures c.if-n-eq0.false (omega arith)
+
+pub returns : goal.returns
+returns c =
+    c.one_more.ensures ∙ climb_on _ _ _ _ c.sweep-first.ensures _ c.if-n-eq0.false c.if-first.false _ c.climb.ensures

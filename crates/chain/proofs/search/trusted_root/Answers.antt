@@ -1,0 +1,7 @@
+use Rattle.rules.specs.Chains.{trusted_root}
+use borrow.Author.Rules.{rules}
+use Rattle.chain.proofs.search.trusted_root.Goals as goal
+
+pub returns : goal.returns
+unfolding trusted_root
+returns c = rw (c.is_present.ensures, c.valid_root.ensures, c.clock.ensures)
