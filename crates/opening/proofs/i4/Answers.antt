@@ -1,0 +1,6 @@
+use Rattle.opening.proofs.ByParts.{i4_told}
+use borrow.Author.Rules.{rules}
+use Rattle.opening.proofs.i4.Goals as goal
+
+pub returns : goal.returns
+returns c = search i4_told

@@ -1,0 +1,6 @@
+use Rattle.opening.proofs.ByParts.{i5_told}
+use borrow.Author.Rules.{rules}
+use Rattle.opening.proofs.i5.Goals as goal
+
+pub returns : goal.returns
+returns c = search i5_told

@@ -1,0 +1,6 @@
+use Rattle.opening.proofs.ByParts.{i6_told}
+use borrow.Author.Rules.{rules}
+use Rattle.opening.proofs.i6.Goals as goal
+
+pub returns : goal.returns
+returns c = search i6_told

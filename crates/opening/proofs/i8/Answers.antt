@@ -1,0 +1,6 @@
+use Rattle.opening.proofs.ByParts.{i8_told}
+use borrow.Author.Rules.{rules}
+use Rattle.opening.proofs.i8.Goals as goal
+
+pub returns : goal.returns
+returns c = search i8_told

@@ -1,0 +1,7 @@
+use Rattle.rules.specs.{ImageRules.one_manufacturer, Words.◌implies◌}
+use borrow.Author.Rules.{rules}
+use Rattle.opening.proofs.sweeps.one_manufacturer.Goals as goal
+
+pub returns : goal.returns
+unfolding one_manufacturer ◌implies◌
+returns c = rw (c.valid_in-2.ensures, c.valid_in.ensures)
