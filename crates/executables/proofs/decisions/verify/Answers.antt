@@ -1,0 +1,13 @@
+use native.Mathlib.Omega.{arith}
+use Rattle.executables.proofs.ExecutableCodes.{verify_told}
+use Rattle.handling.proofs.Decided.{unformed, formed}
+use borrow.Author.Rules.{rules}
+use mathlib.Core.Bool.{not}
+use mathlib.Core.Path.{ap}
+use Rattle.executables.proofs.decisions.verify.Goals as goal
+
+pub returns-then-not-id_form : goal.returns-then-not-id_form
+returns-then-not-id_form c = unformed _ _ _ _ (verify_told _ _ (omega arith)) (c.id_form.ensures _) (ap not c.if-not-id_form.true)
+
+pub returns : goal.returns
+returns c = formed _ _ _ _ (verify_told _ _ (omega arith)) (c.id_form.ensures _) (ap not c.if-not-id_form.false) c.on_executable.ensures
