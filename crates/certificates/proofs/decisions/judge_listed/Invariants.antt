@@ -1,0 +1,27 @@
+use Prim.Native.Nat.{ℕ, ◌+◌, ◌<◌, ◌≤◌, ◌-◌}
+use mathlib.Core.{Bool.{Bool, cond, not}, List.List, Path.{◌≡◌, refl, sym, ap, ◌∙◌}}
+use native.Mathlib.Omega.{arith}
+use borrow.Author.Rules.{rules}
+use lib.ListN.{length, get_or, drop}
+use Rattle.records.specs.Phone.{decode}
+use Rattle.rules.specs.{Words.any, ImageRules.third_party_root, Forms.listed, Codes.{has_id, certificate_named, certificate_known}}
+use Rattle.laws.proofs.Loops.{any_stops, any_goes_on, any_fails}
+use Rattle.lookup.proofs.FoundSlot.{at_first, at_within}
+use Rattle.handling.proofs.Named.{certificate_here, certificate_missing, certificate_found}
+use Rattle.terms.proofs.Listed.{listed_length, listed_at, told_here, told_later, told_all}
+use Rattle.certificates.proofs.decisions.judge_listed.Given as goal
+
+abbrev pub unknown : List ℕ → ℕ → Bool
+unknown s n = not (certificate_known (decode s) n)
+
+abbrev pub other : List ℕ → ℕ → Bool
+other s n = not (third_party_root (certificate_named (decode s) n))
+
+abbrev pub invariant-loop-i : goal.invariant-loop-i
+invariant-loop-i l = (l.i ≤ l.n)
+    × (l.n ≡ l.e.fourth)
+    × (any (unknown l.s) (drop l.i (listed l.e)) ≡ any (unknown l.s) (listed l.e))
+    × (cond (any (other l.s) (drop l.i (listed l.e))) 12 l.told ≡ cond (any (other l.s) (listed l.e)) 12 0)
+
+abbrev pub decreases-loop-i : goal.decreases-loop-i
+decreases-loop-i l = l.n - l.i
