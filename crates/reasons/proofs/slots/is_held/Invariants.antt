@@ -1,0 +1,18 @@
+use borrow.{Author.Rules.rules, Author.Tests.{eq-eqb, ne_eqb}}
+use native.Mathlib.Omega.{arith}
+use Prim.Native.Nat.{◌≤◌, ◌-◌}
+use mathlib.Core.Path.{◌≡◌, refl}
+use lib.ListN.{length, drop}
+use Rattle.records.specs.Phone.{decode, no_certificate}
+use Rattle.rules.specs.Words.{any}
+use Rattle.laws.proofs.Loops.{any_stops, any_goes_on, any_fails}
+use Rattle.explanations.specs.Why.{has_key}
+use Rattle.reasons.proofs.slots.is_held.Given as goal
+
+abbrev pub invariant-loop-i : goal.invariant-loop-i
+invariant-loop-i l = (l.i ≤ l.slots) × (l.slots ≡ length (decode l.s).trust.certificates)
+    × (any (has_key l.key) (drop l.i (decode l.s).trust.certificates)
+    ≡ any (has_key l.key) (decode l.s).trust.certificates)
+
+abbrev pub decreases-loop-i : goal.decreases-loop-i
+decreases-loop-i l = l.slots - l.i

@@ -1,0 +1,17 @@
+use borrow.Author.Rules.{rules}
+use native.Mathlib.Omega.{arith}
+use Prim.Native.Nat.{◌≤◌, ◌-◌}
+use mathlib.Core.Path.{◌≡◌, refl, sym, ◌∙◌}
+use lib.ListN.{length, drop}
+use Rattle.records.specs.Phone.{decode, no_certificate}
+use Rattle.rules.specs.{Words.any, Chains.{serves, good}}
+use Rattle.laws.proofs.Loops.{any_stops, any_goes_on, any_fails}
+use Rattle.reasons.proofs.slots.is_served.Given as goal
+
+abbrev pub invariant-loop-i : goal.invariant-loop-i
+invariant-loop-i l = (l.i ≤ l.slots) × (l.slots ≡ length (decode l.s).trust.certificates)
+    × (any (serves (good l.n (decode l.s).trust) l.domain l.key) (drop l.i (decode l.s).trust.certificates)
+    ≡ any (serves (good l.n (decode l.s).trust) l.domain l.key) (decode l.s).trust.certificates)
+
+abbrev pub decreases-loop-i : goal.decreases-loop-i
+decreases-loop-i l = l.slots - l.i

@@ -1,0 +1,17 @@
+use borrow.Author.Rules.{rules}
+use native.Mathlib.Omega.{arith}
+use Prim.Native.Nat.{◌≤◌, ◌-◌}
+use mathlib.Core.Path.{◌≡◌, ◌∙◌}
+use lib.ListN.{length, drop}
+use Rattle.records.specs.Phone.{decode, no_certificate}
+use Rattle.rules.specs.Chains.{serves, good}
+use Rattle.explanations.specs.Why.{lowest}
+use Rattle.reasons.proofs.Sweeps.{lowest_end, lowest_back, lowest_done}
+use Rattle.reasons.proofs.slots.lowest_server.Given as goal
+
+abbrev pub invariant-loop-i : goal.invariant-loop-i
+invariant-loop-i l = (l.i ≤ length (decode l.s).trust.certificates)
+    × (l.best ≡ lowest (serves (good l.n (decode l.s).trust) l.domain l.key) 0 (drop l.i (decode l.s).trust.certificates))
+
+abbrev pub decreases-loop-i : goal.decreases-loop-i
+decreases-loop-i l = l.i
