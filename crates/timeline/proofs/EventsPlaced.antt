@@ -30,17 +30,14 @@ module _ (b : List ℕ) (n : ℕ) (v : List ℕ) where
 
   -- a copy into the bytes where it belongs: w is what stands there then
   pub event_copied : length v ≡ event_size → n < room b → let a = n * event_size in let k = a + event_size - a in (w : List ℕ)
-      → w ≡ take (length v) v ++ drop (length v) (take k (drop a b)) → take a b ++ (w ++ drop k (drop a b)) ≡ with_event b n v
+      → w ≡ v → take a b ++ (w ++ drop k (drop a b)) ≡ with_event b n v
   unfolding put
   event_copied s h w q =
       let a = n * event_size in
       let k = a + event_size - a in
       let e : k ≡ length v = omega arith in
-      let part = take k (drop a b) in
-      let long : length part ≡ k = length-take-le k (drop a b) (omega (arith, length-drop a b)) in
-      let there : w ≡ v = q ∙ ap₂ (λ x y. x ++ y) (take_all (length v) v (omega arith)) (drop_of_length-le part {i = length v} (omega arith)) ∙ append-nil v in
       let behind : drop k (drop a b) ≡ drop (a + length v) b = drop-drop k a b ∙ ap (λ m. drop (a + m) b) e in
-      ap₂ (λ x y. take a b ++ (x ++ y)) there behind ∙ sym (append_assoc (take a b) v (drop (a + length v) b)) ∙ event_in h
+      ap₂ (λ x y. take a b ++ (x ++ y)) q behind ∙ sym (append_assoc (take a b) v (drop (a + length v) b)) ∙ event_in h
 
 -- a clock event, by its two fields that are not 0: w is what is written for it
 pub clock_placed : (b : List ℕ) (n s : ℕ) (v w : List ℕ) {o : List ℕ} → v ≡ put (zeros event_size) 0 (bytes 1 1) → w ≡ put v 8 (bytes 4 s)

@@ -105,7 +105,7 @@ fn put_event(events: &mut [u8], n: usize, v: &[u8])
         return;
     }
     let at = n * Event::SIZE;
-    bytes::copy(v, &mut events[at..at + Event::SIZE]);
+    events[at..at + Event::SIZE].copy_from_slice(v);
 }
 
 // "key = new time": the clock event of a second, as the n-th event of a buffer.
