@@ -7,8 +7,8 @@ ghost use Rattle.records.specs.Sizes.{event_size};
 ghost use Rattle.rules.specs.AcceptedImage.{AcceptedImage};
 ghost use Rattle.stream.specs.PrintedLines.{longest_line};
 
-use libc::{STDIN_FILENO, STDOUT_FILENO};
 use records::{Event, image};
+use stream::{STDIN, STDOUT};
 
 // Events are numbered as far as 64 bits count: a million of them a second take half a million years to get there.
 const MOST_EVENTS: u64 = 18446744073709551615;
@@ -22,14 +22,14 @@ fn all_events(s: &mut [u8], v: &mut [u8], out: &mut [u8])
 {
     let mut used = 0;
     let mut n: u64 = 0;
-    let mut got = io::read_full(STDIN_FILENO, v);
+    let mut got = io::read_full(STDIN, v);
     while n < MOST_EVENTS && 0 < got {
         n += 1;
         let a = events::step_accepted(s, &v[..got]);
         used = stream::add_line(out, used, n, v[0], a);
-        got = io::read_full(STDIN_FILENO, v);
+        got = io::read_full(STDIN, v);
     }
-    io::write_all(STDOUT_FILENO, &out[..used]);
+    io::write_all(STDOUT, &out[..used]);
 }
 
 // What came as an image, and the events behind it. Zeros of the buffer never stand for bytes that were not read.
@@ -39,7 +39,7 @@ fn lesson(s: &mut [u8]) {
     if fault.rule != 0 {
         let told = opening::told(s, fault);
         let refusal = stream::put_refusal(&mut out, told.rule, told.offset);
-        io::write_all(STDOUT_FILENO, &out[..refusal]);
+        io::write_all(STDOUT, &out[..refusal]);
         return;
     }
     let mut record = [0u8; Event::SIZE];
@@ -49,8 +49,8 @@ fn lesson(s: &mut [u8]) {
 fn main() {
     let mut first = [0u8; 29];
     let told = stream::put_heading(&mut first);
-    io::write_all(STDOUT_FILENO, &first[..told]);
+    io::write_all(STDOUT, &first[..told]);
     let mut buffer = [0u8; image::LARGEST];
-    let got = stream::read_image(STDIN_FILENO, &mut buffer);
+    let got = stream::read_image(STDIN, &mut buffer);
     lesson(&mut buffer[..got]);
 }

@@ -8,9 +8,9 @@ ghost use Rattle.differences.specs.Compared.{FirstDifference, Differ};
 ghost use Rattle.differences.specs.WrittenAnswers.{answer_of, told_line, opened_line, kind_at, text_room, written};
 ghost use Rattle.stream.specs.PrintedLines.{longest_line};
 
-use libc::STDOUT_FILENO;
 use records::{Card, Certificate, Event, Executable, Header, Row};
 use rules::Answer;
+use stream::STDOUT;
 
 // The ways: a run with room for every answer, runs with room for seven answers each, and a step for each event.
 #[derive(Clone, Copy)]
@@ -21,11 +21,11 @@ pub enum Way {
 }
 
 fn say(text: &[u8]) {
-    io::write_all(STDOUT_FILENO, text);
+    io::write_all(STDOUT, text);
 }
 
 fn say_number(n: u64) {
-    io::print_decimal(STDOUT_FILENO, n);
+    io::print_decimal(STDOUT, n);
 }
 
 // ---- an answer

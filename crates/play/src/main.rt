@@ -7,8 +7,8 @@ ghost use Rattle.records.specs.Sizes.{event_size};
 ghost use Rattle.rules.specs.AcceptedImage.{AcceptedImage};
 ghost use Rattle.stream.specs.PrintedLines.{longest_line};
 
-use libc::{STDIN_FILENO, STDOUT_FILENO};
 use records::{Event, image};
+use stream::{STDIN, STDOUT};
 
 // The first n events of a buffer.
 fn all_events(s: &mut [u8], events: &[u8], n: usize, out: &mut [u8])
@@ -23,7 +23,7 @@ fn all_events(s: &mut [u8], events: &[u8], n: usize, out: &mut [u8])
         i += 1;
         used = stream::add_line(out, used, i as u64, events[at], a);
     }
-    io::write_all(STDOUT_FILENO, &out[..used]);
+    io::write_all(STDOUT, &out[..used]);
 }
 
 // What came as an image, and what came behind it as a timeline.
@@ -33,11 +33,11 @@ fn lesson(s: &mut [u8], t: &[u8]) {
     let told = timeline::unroll(s, t, &mut events);
     if told.code == 1 {
         let refusal = stream::put_refusal(&mut out, told.rule, told.offset);
-        io::write_all(STDOUT_FILENO, &out[..refusal]);
+        io::write_all(STDOUT, &out[..refusal]);
         return;
     }
     if told.code != 0 {
-        io::write_all(STDOUT_FILENO, b"timeline 19\n");
+        io::write_all(STDOUT, b"timeline 19\n");
         return;
     }
     all_events(s, &events, told.count, &mut out);
@@ -46,11 +46,11 @@ fn lesson(s: &mut [u8], t: &[u8]) {
 fn main() {
     let mut first = [0u8; 29];
     let told = stream::put_heading(&mut first);
-    io::write_all(STDOUT_FILENO, &first[..told]);
+    io::write_all(STDOUT, &first[..told]);
     let mut buffer = [0u8; image::LARGEST];
-    let got = stream::read_image(STDIN_FILENO, &mut buffer);
+    let got = stream::read_image(STDIN, &mut buffer);
     // A byte more than the longest timeline has, so that one byte too many is seen.
     let mut behind = [0u8; timeline::LONGEST + 1];
-    let more = io::read_full(STDIN_FILENO, &mut behind);
+    let more = io::read_full(STDIN, &mut behind);
     lesson(&mut buffer[..got], &behind[..more]);
 }

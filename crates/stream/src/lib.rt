@@ -8,9 +8,16 @@ ghost use Rattle.stream.specs.Decimal.{most_digits, decimal, column};
 ghost use Rattle.stream.specs.Refusal.{image_refused, longest_refusal};
 ghost use Rattle.stream.specs.PrintedLines.{line, longest_line, line_place, heading};
 
-use libc::STDOUT_FILENO;
 use records::{Header, image};
 use rules::Answer;
+use std::env::{Env, FillError};
+
+// The descriptors that every program has.
+pub const STDIN: i32 = 0;
+
+pub const STDOUT: i32 = 1;
+
+pub const STDERR: i32 = 2;
 
 // Reads a header and then the bytes up to the total that it tells, and answers how many came: fewer where the input
 // ends. Behind a header with a total that no image has, nothing more is read.
@@ -31,6 +38,28 @@ pub fn read_image(fd: i32, s: &mut [u8]) -> usize
     }
     let more = io::read_full(fd, &mut s[Header::SIZE..total]);
     Header::SIZE + more
+}
+
+// ---- the words of the command line
+
+// Puts word i at the start of a buffer and answers how long it is: 0 where there is none, and where the buffer has no room for it.
+pub fn word<R: Env>(rt: &R, i: usize, out: &mut [u8]) -> usize
+    ensures { result ≤ length out.new }
+{
+    match rt.arg(i, out) {
+        Ok(n) => n,
+        Err(_) => 0,
+    }
+}
+
+// Whether there is a word i, however long.
+pub fn has_word<R: Env>(rt: &R, i: usize) -> bool {
+    let mut none = [0u8; 0];
+    match rt.arg(i, &mut none) {
+        Ok(_) => true,
+        Err(FillError::TooLong) => true,
+        Err(FillError::NotPresent) => false,
+    }
 }
 
 // ---- text
@@ -103,7 +132,7 @@ fn room(out: &[u8], used: usize) -> usize
     if LONGEST_LINE <= out.len() - used {
         return used;
     }
-    io::write_all(STDOUT_FILENO, &out[..used]);
+    io::write_all(STDOUT, &out[..used]);
     0
 }
 

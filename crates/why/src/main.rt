@@ -15,8 +15,8 @@ ghost use Rattle.why.specs.EventsRun.{RanAtMost};
 ghost use Rattle.why.specs.SentenceText.{about, link_sentence, reason_sentence, sentence, longest_sentence};
 ghost use Rattle.why.specs.SentenceText.{page, lines_said, longest_page, executable_unknown, answer_text};
 
-use libc::{STDERR_FILENO, STDIN_FILENO, STDOUT_FILENO};
 use records::{Event, image};
+use stream::{STDERR, STDIN, STDOUT};
 
 // ---- a sentence
 
@@ -150,17 +150,17 @@ fn is_unknown(s: &[u8], id: u16) -> bool
 }
 
 fn complain(text: &[u8]) {
-    io::write_all(STDERR_FILENO, text);
+    io::write_all(STDERR, text);
 }
 
 // The answer; where no executable has the id, that is said in words too.
 fn tell(s: &[u8], id: u16) {
     let mut out = [0u8; 5184];
     let told = put_answer(s, id, &mut out);
-    io::write_all(STDOUT_FILENO, &out[..told]);
+    io::write_all(STDOUT, &out[..told]);
     if is_unknown(s, id) {
         complain(b"why: no executable has id ");
-        io::print_decimal(STDERR_FILENO, id as u64);
+        io::print_decimal(STDERR, id as u64);
         complain(b"\n");
     }
 }
@@ -175,7 +175,7 @@ fn run_events(s: &mut [u8], v: &mut [u8], most: u64)
 {
     let mut n: u64 = 0;
     while n < most {
-        let got = io::read_full(STDIN_FILENO, v);
+        let got = io::read_full(STDIN, v);
         if got == 0 {
             return;
         }
@@ -203,7 +203,7 @@ fn lesson(s: &mut [u8], id: u16, events: u64) {
 // What came as an image. Zeros of the buffer never stand for bytes that were not read.
 fn explain(id: u16, events: u64) {
     let mut buffer = [0u8; image::LARGEST];
-    let got = stream::read_image(STDIN_FILENO, &mut buffer);
+    let got = stream::read_image(STDIN, &mut buffer);
     lesson(&mut buffer[..got], id, events);
 }
 
@@ -257,31 +257,30 @@ fn asks_help(word: &[u8]) -> bool {
 }
 
 fn help() {
-    io::write_all(STDOUT_FILENO, b"usage: why ID [EVENTS] < FILE\n");
+    io::write_all(STDOUT, b"usage: why ID [EVENTS] < FILE\n");
     io::write_all(
-        STDOUT_FILENO,
+        STDOUT,
         b"Says why the executable with this ID has its domain or has none. FILE is an image;\n",
     );
     io::write_all(
-        STDOUT_FILENO,
+        STDOUT,
         b"with EVENTS, that many of the events behind it are run first.\n",
     );
 }
 
 // The words behind the program's name.
-fn main() {
-    let words = os::arg_count();
+fn main(rt: HostRuntime) {
     let mut first = [0u8; 32];
-    let id_length = os::arg(1, &mut first);
+    let id_length = stream::word(&rt, 1, &mut first);
     if asks_help(&first[..id_length]) {
         help();
         return;
     }
-    if words < 2 {
+    if !stream::has_word(&rt, 1) {
         complain(b"why: an id is missing; usage: why ID [EVENTS] < FILE\n");
         return;
     }
-    if 3 < words {
+    if stream::has_word(&rt, 3) {
         complain(b"why: a word too many; usage: why ID [EVENTS] < FILE\n");
         return;
     }
@@ -293,12 +292,12 @@ fn main() {
         complain(b"why: ID is a number from 0 to 65535\n");
         return;
     }
-    if words == 2 {
+    if !stream::has_word(&rt, 2) {
         explain(id as u16, 0);
         return;
     }
     let mut second = [0u8; 32];
-    let events_length = os::arg(2, &mut second);
+    let events_length = stream::word(&rt, 2, &mut second);
     let Number::Is(events) = parse(&second[..events_length]) else {
         complain(b"why: EVENTS is a number of at most 19 digits\n");
         return;
