@@ -184,6 +184,22 @@ fn line_of(text: &[u8], at: usize) -> Line
     line
 }
 
+// The first place from a place on where a byte stands, or the end.
+pub fn find(text: &[u8], from: usize, b: u8) -> usize
+    requires { from ≤ length text.now }
+    ensures lower_bound { from ≤ result }
+    ensures upper_bound { result ≤ length text.now }
+{
+    let mut i = from;
+    while i < text.len() {
+        if text[i] == b {
+            return i;
+        }
+        i += 1;
+    }
+    i
+}
+
 fn say_line(text: &[u8], start: usize)
     requires { start ≤ length text.now }
 {
@@ -191,7 +207,7 @@ fn say_line(text: &[u8], start: usize)
         say(b"nothing");
         return;
     }
-    let end = bytes::scan::find(text, start, text.len(), b'\n');
+    let end = find(text, start, b'\n');
     say(&text[start..end]);
 }
 

@@ -1,0 +1,37 @@
+use Prim.Native.Nat.{ℕ, ◌*◌, ◌-◌, ◌≤◌}
+use mathlib.Core.Path.{◌≡◌, refl, subst}
+use native.Mathlib.Omega.{arith}
+use lib.ListN.{length}
+use Rattle.octets.specs.Octets.{put}
+use Rattle.explanations.specs.Why.{line}
+use Rattle.stream.proofs.JoinedTexts.{Put}
+use Rattle.why.specs.SentenceText.{longest_sentence, page, lines_said}
+use Rattle.why.proofs.{Sentences.sentence_small, Pages.{last_id, page_none, page_next}}
+use Rattle.why.proofs.put_page.Goals as goal
+
+pub loop-i-init : goal.loop-i-init
+unfolding lines_said
+loop-i-init c = let a = c.args in (omega arith, refl, omega arith, page_none a.out.now a.lines.now, refl)
+
+pub loop-i-preserved : goal.loop-i-preserved
+loop-i-preserved c =
+    let v = c.loop-i in
+    let a = c.args in
+    let small = sentence_small v.above (line c.read8-what.result c.read16-id.result) in
+    let next = page_next a.out.now a.lines.now v.i v.invariant.3 v.invariant.4 c.read8-what.ensures c.read16-id.ensures
+    c.put_sentence-at.ensures in
+    (omega arith, omega arith, omega (arith, small, c.put_sentence-at.ensures.1), next.0, next.1)
+
+pub returns-clause-out_after : goal.returns-clause-out_after
+returns-clause-out_after c =
+    let v = c.loop-i in
+    let a = c.args in
+    let all : v.i ≡ a.n = omega arith in let all = subst (λ (k : ℕ). (v.out ≡ put a.out.now 0 (page 0 (lines_said a.lines.now k))) × (v.at ≡ length (page 0 (lines_said a.lines.now k)))) all
+    (v.invariant.3.0, omega (arith, v.invariant.3.1)) in all.0
+
+pub returns-clause-value : goal.returns-clause-value
+returns-clause-value c =
+    let v = c.loop-i in
+    let a = c.args in
+    let all : v.i ≡ a.n = omega arith in let all = subst (λ (k : ℕ). (v.out ≡ put a.out.now 0 (page 0 (lines_said a.lines.now k))) × (v.at ≡ length (page 0 (lines_said a.lines.now k)))) all
+    (v.invariant.3.0, omega (arith, v.invariant.3.1)) in all.1

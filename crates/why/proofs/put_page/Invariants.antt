@@ -1,0 +1,18 @@
+use Prim.Native.Nat.{ℕ, ◌*◌, ◌-◌, ◌≤◌}
+use mathlib.Core.Path.{◌≡◌, refl, subst}
+use native.Mathlib.Omega.{arith}
+use lib.ListN.{length}
+use Rattle.octets.specs.Octets.{put}
+use Rattle.explanations.specs.Why.{line}
+use Rattle.stream.proofs.JoinedTexts.{Put}
+use Rattle.why.specs.SentenceText.{longest_sentence, page, lines_said}
+use Rattle.why.proofs.{Sentences.sentence_small, Pages.{last_id, page_none, page_next}}
+use Rattle.why.proofs.put_page.Given as goal
+
+-- the page of the first i lines stands, and the id above the next is that of the last of them
+abbrev pub invariant-loop-i : goal.invariant-loop-i
+invariant-loop-i l = (l.i ≤ l.n) × (length l.out ≡ length l.initial.out) × (l.at ≤ l.i * longest_sentence)
+    × Put l.initial.out 0 (page 0 (lines_said l.lines l.i)) l.out l.at × (l.above ≡ last_id 0 (lines_said l.lines l.i))
+
+abbrev pub decreases-loop-i : goal.decreases-loop-i
+decreases-loop-i l = l.n - l.i
