@@ -2,8 +2,8 @@
 ghost use Rattle.std.specs.Prelude.{◌≤◌, ◌<◌, length};
 
 use differences::{answer_of, kind_of};
-use libc::STDOUT_FILENO;
 use records::Event;
+use stream::STDOUT;
 
 // Kinds 0 to 16, where 0 stands for all that are none, and codes 0 to 18; domains 0 to 3, and links 0 to 4.
 const KINDS: usize = 17;
@@ -85,11 +85,11 @@ pub(crate) fn count_answers(seen: &mut [u64], events: &[u8], told: &[u64])
 // ---- said
 
 fn say(text: &[u8]) {
-    io::write_all(STDOUT_FILENO, text);
+    io::write_all(STDOUT, text);
 }
 
 fn say_number(n: u64) {
-    io::print_decimal(STDOUT_FILENO, n);
+    io::print_decimal(STDOUT, n);
 }
 
 fn say_count(a: usize, b: usize, times: u64) {

@@ -12,8 +12,11 @@ ghost use Rattle.records.specs.Sizes.{largest_image};
 
 use coverage::COUNTS;
 use differences::Way;
-use libc::STDOUT_FILENO;
 use records::{Event, image};
+use std::fs::File;
+use std::os::fd::AsRawFd;
+use std::rt::Files;
+use stream::STDOUT;
 
 const MOST_CASES: u64 = 1000000;
 // More than the events of a case have room for.
@@ -60,21 +63,22 @@ fn append(path: &mut [u8], from: usize, text: &[u8]) -> usize
     from + text.len()
 }
 
-// A file of the case, opened, or -1.
-fn open_part(name: &[u8], part: &[u8]) -> i32 {
+// A file of the case, opened: none where it cannot be read, or where its name is no text.
+fn open_part<R: Files<File = File>>(rt: &R, name: &[u8], part: &[u8]) -> Option<File> {
     let mut path = [0u8; 256];
     let named = append(&mut path, 0, name);
     let ended = append(&mut path, named, part);
-    os::open_read(&path[..ended])
+    match str::from_utf8(&path[..ended]) {
+        Ok(text) => std::fs::open(rt, text).ok(),
+        Err(_) => None,
+    }
 }
 
-// All that the file still has, as far as there is room; nothing of a file that is not there.
-fn read_rest(fd: i32, buf: &mut [u8]) -> usize
+// All that the file still has, as far as there is room. It is closed then.
+fn read_rest(file: File, buf: &mut [u8]) -> usize
     ensures { result ≤ length buf.new }
 {
-    let got = io::read_full(fd, buf);
-    libc::close(fd);
-    got
+    io::read_full(file.as_raw_fd(), buf)
 }
 
 // ---- the ways through the library
@@ -256,7 +260,13 @@ fn asked(opened: u64, n: usize) -> usize
 }
 
 // The image that has to be there afterwards: a refused one stays as it was.
-fn read_last(name: &[u8], opened: u64, first: &[u8], last: &mut [u8]) -> usize
+fn read_last<R: Files<File = File>>(
+    rt: &R,
+    name: &[u8],
+    opened: u64,
+    first: &[u8],
+    last: &mut [u8],
+) -> usize
     requires { length first.now ≤ length last.old }
     ensures { result ≤ length last.new }
 {
@@ -264,20 +274,29 @@ fn read_last(name: &[u8], opened: u64, first: &[u8], last: &mut [u8]) -> usize
         stream::put_text(last, 0, first);
         return first.len();
     }
-    let kept = open_part(name, b".fin");
-    read_rest(kept, last)
+    match open_part(rt, name, b".fin") {
+        Some(kept) => read_rest(kept, last),
+        None => 0,
+    }
 }
 
-// The stream of a case, from its descriptor: an image, and the events behind it.
-fn stream_differs(name: &[u8], every_way: bool, given: i32, want: &[u8], seen: &mut [u64]) -> bool {
+// The stream of a case, from its file: an image, and the events behind it.
+fn stream_differs<R: Files<File = File>>(
+    rt: &R,
+    name: &[u8],
+    every_way: bool,
+    given: File,
+    want: &[u8],
+    seen: &mut [u64],
+) -> bool {
     let mut first = [0u8; image::LARGEST];
-    let i = stream::read_image(given, &mut first);
+    let i = stream::read_image(given.as_raw_fd(), &mut first);
     let mut events = io::large_buffer();
     let e = read_rest(given, &mut events);
     let opened = monitor::monitor_open(&first[..i]);
     let n = asked(opened, e);
     let mut last = io::buffer();
-    let l = read_last(name, opened, &first[..i], &mut last);
+    let l = read_last(rt, name, opened, &first[..i], &mut last);
     ways_differ(
         name,
         every_way,
@@ -290,18 +309,16 @@ fn stream_differs(name: &[u8], every_way: bool, given: i32, want: &[u8], seen: &
 }
 
 // A case by its name.
-fn case(name: &[u8], every_way: bool, seen: &mut [u64]) -> bool {
-    let given = open_part(name, b".in");
-    if given < 0 {
+fn case<R: Files<File = File>>(rt: &R, name: &[u8], every_way: bool, seen: &mut [u64]) -> bool {
+    let Some(given) = open_part(rt, name, b".in") else {
         return differences::tell_case(name, Way::Whole, b".in cannot be read\n");
-    }
-    let expected = open_part(name, b".out");
-    if expected < 0 {
+    };
+    let Some(expected) = open_part(rt, name, b".out") else {
         return differences::tell_case(name, Way::Whole, b".out cannot be read\n");
-    }
+    };
     let mut want = io::large_buffer();
     let w = read_rest(expected, &mut want);
-    stream_differs(name, every_way, given, &want[..w], seen)
+    stream_differs(rt, name, every_way, given, &want[..w], seen)
 }
 
 // ---- all of them
@@ -315,32 +332,33 @@ fn one_if(b: bool) -> u64
     0
 }
 
-fn all_cases(list: &[u8], every_way: bool, seen: &mut [u64]) {
+fn all_cases<R: Files<File = File>>(rt: &R, list: &[u8], every_way: bool, seen: &mut [u64]) {
     let mut run: u64 = 0;
     let mut differing: u64 = 0;
     let mut i = 0;
     while run < MOST_CASES && i < list.len() {
-        let line_end = bytes::scan::find(list, i, list.len(), b'\n');
-        let end = least(bytes::scan::find(list, i, list.len(), b' '), line_end);
-        differing += one_if(case(&list[i..end], every_way, seen));
+        let line_end = differences::find(list, i, b'\n');
+        let end = least(differences::find(list, i, b' '), line_end);
+        differing += one_if(case(rt, &list[i..end], every_way, seen));
         run += 1;
         i = after(list, line_end);
     }
-    io::print_decimal(STDOUT_FILENO, run);
-    io::write_all(STDOUT_FILENO, b" cases, ");
-    io::print_decimal(STDOUT_FILENO, differing);
-    io::write_all(STDOUT_FILENO, b" differ\n");
+    io::print_decimal(STDOUT, run);
+    io::write_all(STDOUT, b" cases, ");
+    io::print_decimal(STDOUT, differing);
+    io::write_all(STDOUT, b" differ\n");
 }
 
-fn main() {
-    let cases = os::open_read(b"cases");
-    if cases < 0 {
-        os::fail(b"cases");
-        return;
-    }
+fn main(rt: HostRuntime) -> std::io::Result<()> {
+    let cases = match std::fs::open(&rt, "cases") {
+        Ok(file) => file,
+        Err(e) => return eprintln!(rt; "cases: {e}"),
+    };
     let mut list = io::large_buffer();
     let n = read_rest(cases, &mut list);
     let mut seen = [0u64; COUNTS];
-    all_cases(&list[..n], 1 < os::arg_count(), &mut seen);
+    let every_way = stream::has_word(&rt, 1);
+    all_cases(&rt, &list[..n], every_way, &mut seen);
     coverage::report(&seen);
+    Ok(())
 }

@@ -1,0 +1,11 @@
+use mathlib.Core.Path.{◌≡◌}
+use lib.ListN.{length}
+use Prim.Native.Nat.{◌-◌, ◌≤◌}
+use borrow.Author.Rules.{rules}
+use Rattle.vectors.proofs.run_in_pieces.Given as goal
+
+abbrev pub invariant-loop-done : goal.invariant-loop-done
+invariant-loop-done l = (length l.image ≡ length l.initial.image) × (length l.told ≡ length l.initial.told) × (l.done ≤ 4103)
+
+abbrev pub decreases-loop-done : goal.decreases-loop-done
+decreases-loop-done l = 4103 - l.done
