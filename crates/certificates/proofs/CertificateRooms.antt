@@ -5,7 +5,7 @@ use native.Mathlib.Omega.{arith}
 use lib.ListN.{length}
 use Rattle.records.specs.{Phone.Phone, declared.Certificate.Certificate, declared.Event.Event}
 use Rattle.rules.specs.{Words.{any, ◌⇒◌, first, first_place}, Forms.with_kind, Codes.{has_id, in_another, code_of}}
-use Rattle.lookup.specs.{declared.Room.TheVariants.{Taken, Full, Free}, declared.CertificateRoom.CertificateRoom, RoomForOne.certificate_room}
+use Rattle.lookup.specs.{declared.CertificateRoom.CertificateRoom, RoomForOne.certificate_room}
 use Rattle.handling.specs.{declared.Plan.Plan, Plans.for_certificate}
 use Rattle.handling.proofs.PlanLaws.{on_code, on_slot, free_certificate_within}
 

@@ -2,7 +2,7 @@
 use Prim.Native.Nat.{ℕ}
 use mathlib.Core.{Bool.{true, false}, List.{List, [], ◌∷◌, Memᴰ}, Logic.{◌≢◌, ◌⊎◌, inl, inr}, Path.{◌≡◌, refl, ap, ◌∙◌}}
 use native.Mathlib.Omega.{arith}
-use lib.Dec.{T, eqb, eqb→eq}
+use lib.Dec.{T, eqb}
 use Rattle.records.specs.{Phone.{Trust, no_certificate}, declared.Card.Card, declared.Certificate.Certificate}
 use Rattle.rules.specs.Words.{any, Check, ◌⇒◌, first}
 use Rattle.rules.specs.Chains.{present, in_date, valid_root, trusted_root, link, serves, good, within, chains_to, chain_domain, most_links}

@@ -7,7 +7,7 @@ use lib.{Dec.eqb, ListN.{length, length-append, get_or}}
 use Rattle.octets.specs.Octets.{put}
 use Rattle.octets.proofs.ByteLaws.{put_none}
 use Rattle.records.specs.{Phone.{Trust, decode, no_executable}, declared.Executable.Executable}
-use Rattle.rules.specs.{declared.Chained.Chained, Words.any, Chains.{chain_domain, links, chain_of, most_links}, declared.Answer.Answer, declared.Fault.Fault}
+use Rattle.rules.specs.{declared.Chained.Chained, Words.any, Chains.{chain_domain, chain_of, most_links}, declared.Answer.Answer, declared.Fault.Fault}
 use Rattle.rules.specs.{ImageRules.accepted, Faults.fault, Step.{opened, refusal}, Codes.{is_executable, executable_named, executable_known}}
 use Rattle.rules.specs.AcceptedImage.{AcceptedImage}
 use Rattle.laws.proofs.{Tests.{eq→eqb, ne→neqb, not_intro}, Accepts.true_T, Shortest.links_small, Places.place_named, Where.{fault_refused, opened_broken}}

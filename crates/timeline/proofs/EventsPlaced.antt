@@ -1,9 +1,9 @@
 -- Events in a buffer, one behind the other as long as there is room: one event, those of a record, and what is left of all. Assumes nothing.
 use Prim.Native.Nat.{ℕ, suc, ◌+◌, ◌-◌, ◌*◌, ◌/◌, ◌≤◌, ◌<◌}
-use mathlib.Core.{Bool.{Bool, true, false, cond}, List.{List, [], ◌∷◌, ◌++◌, append_assoc, append-nil}, Path.{◌≡◌, refl, sym, ap, ap₂, ◌∙◌, subst}}
+use mathlib.Core.{Bool.{Bool, true, false, cond}, List.{List, [], ◌∷◌, ◌++◌, append_assoc}, Path.{◌≡◌, refl, sym, ap, ap₂, ◌∙◌, subst}}
 use native.{Mathlib.Nat.{sub-zero, add-zero}, Mathlib.Omega.arith}
 use borrow.Author.Tests.{lt-ltb, le-ltb}
-use lib.{Dec.{ltb, ltb→lt, nltb→le}, ListN.{length, take, drop, length-drop, drop_of_length-le}, Seq.{take-nil, take_all, drop-drop, length-take-le}}
+use lib.{Dec.{ltb, ltb→lt, nltb→le}, ListN.{length, take, drop}, Seq.{take-nil, drop-drop}}
 use Rattle.octets.specs.Octets.{bytes, put, zeros}
 use Rattle.octets.proofs.ByteLaws.{put_none, length_put}
 use Rattle.records.specs.{Sizes.event_size, Layout.event_bytes, Phone.joined}

@@ -1,10 +1,8 @@
 use borrow.Author.Rules.{rules}
 use Rattle.stream.proofs.LinePlaces.{line_within}
 use native.Mathlib.Omega.{arith}
-use mathlib.Core.Path.{sym, ◌≡◌}
+use mathlib.Core.Path.{sym}
 use lib.{Seq.length-take-le, ListN.length}
-use Prim.Native.Nat.{◌-◌, ◌≤◌}
-use Rattle.rules.specs.AcceptedImage.{AcceptedImage}
 use Rattle.bench.proofs.all_events.Goals as goal
 
 pub slice_bounds-step_accepted-end-in-loop-n : goal.slice_bounds-step_accepted-end-in-loop-n

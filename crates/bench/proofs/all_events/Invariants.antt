@@ -1,8 +1,5 @@
-use borrow.Author.Rules.{rules}
-use Rattle.stream.proofs.LinePlaces.{line_within}
-use native.Mathlib.Omega.{arith}
-use mathlib.Core.Path.{sym, ◌≡◌}
-use lib.{Seq.length-take-le, ListN.length}
+use mathlib.Core.Path.{◌≡◌}
+use lib.{ListN.length}
 use Prim.Native.Nat.{◌-◌, ◌≤◌}
 use Rattle.rules.specs.AcceptedImage.{AcceptedImage}
 use Rattle.bench.proofs.all_events.Given as goal

@@ -1,4 +1,3 @@
-use borrow.Author.Rules.{rules}
 use Rattle.bits.proofs.BitLaws.{and_put}
 use Rattle.bits.proofs.clear_bit.Goals as goal
 

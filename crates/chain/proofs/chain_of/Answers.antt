@@ -1,4 +1,3 @@
-use borrow.Author.Rules.{rules}
 use Rattle.chain.proofs.FirstHolder.{chain_held, chain_unheld}
 use Rattle.chain.proofs.chain_of.Goals as goal
 

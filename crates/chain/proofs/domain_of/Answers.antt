@@ -1,11 +1,7 @@
 use borrow.Author.Rules.{rules}
 use native.Mathlib.Omega.{arith}
-use Prim.Native.Nat.{◌≤◌, ◌-◌}
-use mathlib.Core.Path.{◌≡◌, refl}
-use lib.ListN.{length}
-use Rattle.records.specs.Phone.{decode}
-use Rattle.chain.specs.SlotWords.{holder}
-use Rattle.chain.proofs.FirstHolder.{holder_from, holder_start, holder_here, holder_next, holder_none}
+use mathlib.Core.Path.{refl}
+use Rattle.chain.proofs.FirstHolder.{holder_start, holder_here, holder_next, holder_none}
 use Rattle.chain.proofs.domain_of.Goals as goal
 
 pub loop-j-init : goal.loop-j-init

@@ -1,10 +1,8 @@
 use borrow.Author.Rules.{rules}
 use native.Mathlib.Omega.{arith}
-use Prim.Native.Nat.{◌≤◌, ◌-◌}
-use lib.ListN.{length, take}
-use mathlib.Core.{Bool.{true, not}, Path.{◌≡◌, ap}}
-use Rattle.records.specs.Phone.{decode, no_executable}
-use Rattle.rules.specs.{Words.all, ImageRules.{chained_fits, i8}}
+use mathlib.Core.{Bool.{not}, Path.{ap}}
+use Rattle.records.specs.Phone.{no_executable}
+use Rattle.rules.specs.{ImageRules.{i8}}
 use Rattle.laws.proofs.{Lowest.{breaks_here, keeps_on, breaks_nowhere}, More.all_grows}
 use Rattle.chain.proofs.ByDomain.{domain_known}
 use Rattle.chain.proofs.first_unchained.Goals as goal

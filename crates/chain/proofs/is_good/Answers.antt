@@ -1,4 +1,3 @@
-use borrow.{Author.Tests.{not-true, not-false}, Author.Rules.rules}
 use Rattle.chain.proofs.Slot.{never_good, good_root, good_unlinked, good_by}
 use Rattle.chain.proofs.is_good.Goals as goal
 

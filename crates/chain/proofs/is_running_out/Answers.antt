@@ -1,7 +1,6 @@
 use Prim.Native.Nat.{ℕ}
 use mathlib.Core.{Bool.{Bool, true, false, not, ◌&&◌, and-true}, Path.{◌≡◌, refl, sym, ap, ◌∙◌}}
 use lib.Dec.{eqb}
-use borrow.Author.Rules.{rules}
 use Rattle.records.specs.declared.Certificate.{Certificate}
 use Rattle.rules.specs.Chains.{in_date}
 use Rattle.chain.specs.Breaks.{runs_out}

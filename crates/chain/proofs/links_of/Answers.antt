@@ -1,5 +1,4 @@
 use Rattle.chain.proofs.Levels.{links_by, links_unsigned, both_signed}
-use borrow.Author.Rules.{rules}
 use Rattle.chain.proofs.links_of.Goals as goal
 
 pub returns-then-key-domain : goal.returns-then-key-domain

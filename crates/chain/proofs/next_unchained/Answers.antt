@@ -1,9 +1,9 @@
-use Prim.Native.Nat.{ℕ, ◌-◌, ◌≤◌, ◌<◌}
-use mathlib.Core.{Bool.true, Path.{◌≡◌, sym, ap, ◌∙◌}}
+use Prim.Native.Nat.{◌≤◌}
+use mathlib.Core.{Path.{◌≡◌, sym, ap, ◌∙◌}}
 use native.Mathlib.Omega.{arith}
-use borrow.{Author.Count.below_more, Author.Rules.rules, Author.Tests.{not-true, not-false}}
+use borrow.{Author.Count.below_more, Author.Rules.rules}
 use lib.ListN.{length}
-use Rattle.records.specs.Phone.{Phone, decode, executable_at}
+use Rattle.records.specs.Phone.{decode}
 use Rattle.chain.specs.SlotWords.{chained_in}
 use Rattle.chain.proofs.next_unchained.Invariants.{Chains}
 use Rattle.chain.proofs.next_unchained.Goals as goal

@@ -1,7 +1,5 @@
 use Prim.Native.Nat.{ℕ, ◌-◌, ◌≤◌, ◌<◌}
-use mathlib.Core.{Bool.true, Path.{◌≡◌, sym, ap, ◌∙◌}}
-use native.Mathlib.Omega.{arith}
-use borrow.{Author.Count.below_more, Author.Rules.rules, Author.Tests.{not-true, not-false}}
+use mathlib.Core.{Bool.true, Path.{◌≡◌}}
 use lib.ListN.{length}
 use Rattle.records.specs.Phone.{Phone, decode, executable_at}
 use Rattle.chain.specs.SlotWords.{chained_in}

@@ -1,13 +1,9 @@
-use Rattle.records.specs.{Phone.{decode, no_certificate}, declared.Certificate.Certificate}
-use Rattle.rules.specs.Words.{any}
+use Rattle.records.specs.{Phone.{decode, no_certificate}}
 use Rattle.laws.proofs.Loops.{any_stops, any_goes_on, any_fails}
 use Rattle.chain.specs.Breaks.{runs_out}
-use mathlib.Core.{Bool.{Bool, false}, List.List, Path.{◌≡◌, refl}}
+use mathlib.Core.{Bool.{false}, Path.{◌≡◌, refl}}
 use borrow.Author.Rules.{rules}
 use native.Mathlib.Omega.{arith}
-use lib.ListN.{length, drop}
-use Prim.Native.Nat.{ℕ, ◌-◌, ◌≤◌}
-use Rattle.chain.proofs.runs_out.Invariants.{some_out}
 use Rattle.chain.proofs.runs_out.Goals as goal
 
 pub loop-i-init : goal.loop-i-init

@@ -1,10 +1,7 @@
-use Rattle.records.specs.{Phone.{decode, no_certificate}, declared.Certificate.Certificate}
+use Rattle.records.specs.{Phone.{decode}, declared.Certificate.Certificate}
 use Rattle.rules.specs.Words.{any}
-use Rattle.laws.proofs.Loops.{any_stops, any_goes_on, any_fails}
 use Rattle.chain.specs.Breaks.{runs_out}
-use mathlib.Core.{Bool.{Bool, false}, List.List, Path.{◌≡◌, refl}}
-use borrow.Author.Rules.{rules}
-use native.Mathlib.Omega.{arith}
+use mathlib.Core.{Bool.{Bool}, List.List, Path.{◌≡◌}}
 use lib.ListN.{length, drop}
 use Prim.Native.Nat.{ℕ, ◌-◌, ◌≤◌}
 use Rattle.chain.proofs.runs_out.Given as goal

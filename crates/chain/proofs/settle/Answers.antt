@@ -1,4 +1,3 @@
-use borrow.Author.Rules.{rules}
 use Rattle.chain.proofs.SettledInTurn.{turn_framed, turns_written}
 use Rattle.chain.proofs.settle.Goals as goal
 

@@ -1,10 +1,5 @@
 use Prim.Native.Nat.{◌-◌, ◌≤◌}
-use native.Mathlib.Omega.{arith}
-use borrow.Author.Rules.{rules}
-use mathlib.Core.Path.{sym, ap, ◌∙◌}
-use Rattle.chain.specs.{SlotWords.good_slots, Settling.settle_in}
-use Rattle.laws.proofs.{Tables.executables, SlotSweeps.{sweep_starts, sweep_ends}}
-use Rattle.chain.proofs.SettledInTurn.{Settling, same_trust, settling_next, settling_writes}
+use Rattle.chain.proofs.SettledInTurn.{Settling}
 use Rattle.chain.proofs.settle_by.Given as goal
 
 abbrev pub invariant-loop-i : goal.invariant-loop-i

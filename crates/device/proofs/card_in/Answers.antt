@@ -1,9 +1,6 @@
-use mathlib.Core.{Bool.true, Path.{◌≡◌, sym, ◌∙◌}}
-use borrow.Author.Rules.{rules}
-use Rattle.records.specs.Phone.{decode}
-use Rattle.rules.specs.{Forms.with_kind, Codes.code_of}
+use mathlib.Core.{Path.{sym, ◌∙◌}}
 use Rattle.handling.proofs.Handles.{handled_refused}
-use Rattle.device.proofs.DeviceDone.{Effected, put_in, put_in_only, settle_asks, settle_ends}
+use Rattle.device.proofs.DeviceDone.{put_in, put_in_only, settle_asks, settle_ends}
 use mathlib.Core.Bool.{not}
 use mathlib.Core.Path.{ap}
 use Rattle.device.proofs.card_in.Goals as goal

@@ -1,7 +1,6 @@
-use mathlib.Core.{Bool.true, Path.{sym, ◌∙◌}}
-use borrow.Author.Rules.{rules}
+use mathlib.Core.{Path.{sym, ◌∙◌}}
 use Rattle.handling.proofs.Handles.{handled_refused}
-use Rattle.device.proofs.DeviceDone.{Effected, taken_out, settle_asks, settle_ends}
+use Rattle.device.proofs.DeviceDone.{taken_out, settle_asks, settle_ends}
 use Rattle.device.proofs.card_out.Goals as goal
 
 pub returns-then-code-ne0 : goal.returns-then-code-ne0

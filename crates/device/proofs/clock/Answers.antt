@@ -1,7 +1,6 @@
 use mathlib.Core.Path.{sym, ◌∙◌}
-use borrow.Author.Rules.{rules}
 use Rattle.handling.proofs.Handles.{handled_refused}
-use Rattle.device.proofs.DeviceDone.{Effected, ticked, settle_asks, settle_ends}
+use Rattle.device.proofs.DeviceDone.{ticked, settle_asks, settle_ends}
 use Rattle.device.proofs.clock.Goals as goal
 
 pub returns-then-code-ne0 : goal.returns-then-code-ne0

@@ -1,7 +1,5 @@
 use borrow.Author.Rules.{rules}
-use lib.ListN.{length}
-use Prim.Native.Nat.{◌-◌}
-use Rattle.differences.proofs.SameBytes.{SameTo, none_yet, one_more, ends, other_ends, byte_differs}
+use Rattle.differences.proofs.SameBytes.{none_yet, one_more, ends, other_ends, byte_differs}
 use Rattle.differences.proofs.first_difference.Goals as goal
 
 pub loop-i-init : goal.loop-i-init

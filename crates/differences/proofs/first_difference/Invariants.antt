@@ -1,7 +1,6 @@
-use borrow.Author.Rules.{rules}
 use lib.ListN.{length}
 use Prim.Native.Nat.{◌-◌}
-use Rattle.differences.proofs.SameBytes.{SameTo, none_yet, one_more, ends, other_ends, byte_differs}
+use Rattle.differences.proofs.SameBytes.{SameTo}
 use Rattle.differences.proofs.first_difference.Given as goal
 
 abbrev pub invariant-loop-i : goal.invariant-loop-i

@@ -3,7 +3,6 @@ use Prim.Native.Nat.{◌*◌, ◌≤◌}
 use native.Mathlib.Omega.{arith}
 use lib.ListN.{length, get_or-eq_default}
 use Rattle.records.specs.Sizes.{event_size}
-use borrow.Author.Rules.{rules}
 use Rattle.differences.proofs.kind_of.Goals as goal
 
 -- behind the end

@@ -1,4 +1,3 @@
-use borrow.Author.Rules.{rules}
 use Rattle.stream.proofs.JoinedTexts.{said, nothing}
 use Rattle.differences.proofs.AnswerLines.{opened_nothing, opened_told}
 use Rattle.differences.proofs.put_opened.Goals as goal

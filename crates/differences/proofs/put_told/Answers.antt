@@ -1,5 +1,4 @@
 use native.Mathlib.Omega.{arith}
-use borrow.Author.Rules.{rules}
 use Rattle.stream.proofs.JoinedTexts.{said, nothing, refusal_ends}
 use Rattle.differences.proofs.AnswerLines.{told_answer, told_before, told_number, told_refusal, put_behind}
 use Rattle.differences.proofs.put_told.Goals as goal

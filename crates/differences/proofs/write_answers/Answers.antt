@@ -1,11 +1,11 @@
-use Prim.Native.Nat.{ℕ, ◌+◌, ◌-◌, ◌≤◌}
-use mathlib.Core.Path.{◌≡◌, sym, ap, ◌∙◌}
+use Prim.Native.Nat.{ℕ, ◌+◌}
+use mathlib.Core.Path.{sym, ap, ◌∙◌}
 use native.Mathlib.Omega.{arith}
 use borrow.Author.Rules.{rules}
-use lib.ListN.{length, get_or, take, drop}
+use lib.ListN.{get_or}
 use Rattle.stream.specs.PrintedLines.{heading}
 use Rattle.stream.proofs.JoinedTexts.{said}
-use Rattle.differences.specs.WrittenAnswers.{told_line, text_room, lines_behind, written}
+use Rattle.differences.specs.WrittenAnswers.{told_line}
 use Rattle.differences.proofs.AnswerLines.{told_small, opened_small, begun, one_more, no_room, all_told}
 use Rattle.differences.proofs.write_answers.Goals as goal
 

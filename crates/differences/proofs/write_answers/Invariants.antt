@@ -1,12 +1,7 @@
-use Prim.Native.Nat.{ℕ, ◌+◌, ◌-◌, ◌≤◌}
-use mathlib.Core.Path.{◌≡◌, sym, ap, ◌∙◌}
-use native.Mathlib.Omega.{arith}
-use borrow.Author.Rules.{rules}
-use lib.ListN.{length, get_or, take, drop}
-use Rattle.stream.specs.PrintedLines.{heading}
-use Rattle.stream.proofs.JoinedTexts.{said}
-use Rattle.differences.specs.WrittenAnswers.{told_line, text_room, lines_behind, written}
-use Rattle.differences.proofs.AnswerLines.{told_small, opened_small, begun, one_more, no_room, all_told}
+use Prim.Native.Nat.{◌-◌, ◌≤◌}
+use mathlib.Core.Path.{◌≡◌}
+use lib.ListN.{length, take, drop}
+use Rattle.differences.specs.WrittenAnswers.{text_room, lines_behind, written}
 use Rattle.differences.proofs.write_answers.Given as goal
 
 -- with what the answers from the i-th on come to behind the text so far, it is all of it

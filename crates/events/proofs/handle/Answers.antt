@@ -1,7 +1,5 @@
-use mathlib.Core.Logic.{⊎_elim}
 use native.Mathlib.Omega.{arith}
 use Rattle.events.proofs.Steps.{low_actor, read_of_kind, no_such_kind, kind_zero, no_such_actor}
-use borrow.Author.Rules.{rules}
 use Rattle.events.proofs.handle.Goals.{in-0-1, in_default-1}
 use Rattle.events.proofs.handle.Goals as goal
 

@@ -1,5 +1,4 @@
 use Rattle.events.proofs.Steps.{broken_stepped}
-use borrow.Author.Rules.{rules}
 use Rattle.events.proofs.step.Goals as goal
 
 pub returns-then-fault-ne0 : goal.returns-then-fault-ne0

@@ -1,5 +1,4 @@
 use Rattle.events.proofs.Steps.{short_stepped, handled_stepped}
-use borrow.Author.Rules.{rules}
 use Rattle.events.proofs.step_accepted.Goals as goal
 
 pub returns-then-v-ne-SIZE : goal.returns-then-v-ne-SIZE

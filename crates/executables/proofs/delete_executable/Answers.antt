@@ -1,4 +1,3 @@
-use borrow.Author.Rules.{rules}
 use Rattle.handling.proofs.Handles.{plan_handled}
 use Rattle.executables.proofs.{ActsOnExecutable.{Acts, acts_named}, ExecutablesDone.{delete_asks, delete_done}}
 use Rattle.executables.proofs.delete_executable.Goals as goal

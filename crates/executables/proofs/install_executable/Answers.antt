@@ -1,4 +1,3 @@
-use borrow.Author.Rules.{rules}
 use Rattle.handling.proofs.Handles.{plan_handled}
 use Rattle.executables.proofs.{ActsOnExecutable.{Acts, acts_free}, ExecutablesDone.install_done}
 use Rattle.executables.proofs.install_executable.Goals as goal

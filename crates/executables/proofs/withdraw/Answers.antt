@@ -1,5 +1,4 @@
 use mathlib.Core.Bool.{false}
-use borrow.Author.Rules.{rules}
 use Rattle.handling.proofs.Handles.{plan_handled}
 use Rattle.executables.proofs.{ActsOnExecutable.{Acts, acts_named}, ExecutablesDone.{permit_asks, permit_done}}
 use Rattle.executables.proofs.withdraw.Goals as goal

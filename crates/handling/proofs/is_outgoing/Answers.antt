@@ -1,4 +1,3 @@
-use borrow.Author.Rules.{rules}
 use Rattle.handling.specs.Retiring.{outgoing}
 use Rattle.handling.proofs.is_outgoing.Goals as goal
 

@@ -1,9 +1,6 @@
 use Prim.Native.Nat.{◌-◌}
-use native.Mathlib.Omega.{arith}
-use borrow.{Author.Tests.{not-true, not-false}, Author.Rules.rules}
 use Rattle.handling.specs.Retiring.{retire}
-use Rattle.laws.proofs.{Tables.certificates, SlotSweeps.{Sweeping, sweep_starts, sweep_goes_on, sweep_skips, sweep_ends}}
-use Rattle.handling.proofs.Retires.{retire_written, retire_skipped}
+use Rattle.laws.proofs.{Tables.certificates, SlotSweeps.{Sweeping}}
 use Rattle.handling.proofs.retire.Given as goal
 
 abbrev pub invariant-loop-i : goal.invariant-loop-i

@@ -1,5 +1,4 @@
 use mathlib.Core.Path.{sym, ap, ◌∙◌}
-use borrow.{Author.Tests.not-true, Author.Rules.rules}
 use Rattle.records.specs.Phone.{encode}
 use Rattle.handling.proofs.settle_if.Goals as goal
 

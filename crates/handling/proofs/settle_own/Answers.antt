@@ -1,6 +1,5 @@
 use mathlib.Core.Path.{ap, ◌∙◌}
 use Rattle.records.specs.Phone.{encode}
-use borrow.Author.Rules.{rules}
 use Rattle.handling.proofs.settle_own.Goals as goal
 
 pub returns : goal.returns

@@ -1,14 +1,12 @@
 use borrow.{Author.Rules.rules, Author.Tests.{eq-eqb, ne_eqb}}
 use native.Mathlib.Omega.{arith}
-use Prim.Native.Nat.{ℕ, ◌+◌, ◌≤◌, ◌-◌}
-use mathlib.Core.{List.List, Bool.false, Path.{◌≡◌, sym, ap, ◌∙◌}}
-use lib.ListN.{length, drop}
-use Rattle.records.specs.Phone.{decode, no_certificate}
-use Rattle.rules.specs.{Words.{any, first_place}, Codes.{has_id, in_another}}
+use Prim.Native.Nat.{◌-◌}
+use mathlib.Core.{Bool.false, Path.{sym, ap, ◌∙◌}}
+use Rattle.records.specs.Phone.{no_certificate}
+use Rattle.rules.specs.{Codes.{has_id, in_another}}
 use Rattle.laws.proofs.Loops.{any_back, any_back_done, any_end}
 use Rattle.laws.proofs.Places.{place_back_here, place_back, place_back_done, place_back_end, place_none, place_some, somewhere}
 use Rattle.lookup.proofs.SweptRoom.{certificate_taken, certificate_elsewhere, certificate_full, certificate_free}
-use Rattle.lookup.proofs.certificate_room.Invariants.{Absent, Alone}
 use Rattle.lookup.proofs.certificate_room.Goals as goal
 
 pub loop-i-init : goal.loop-i-init
@@ -47,12 +45,12 @@ loop-i-preserved-then-c-ne0 c =
       omega arith,
       search rules,
       (let v = c.loop-i in
-    any_back no_certificate _ (v.i - 1) _ false false {j = v.i} v.invariant.2 (omega arith) (omega arith)
-    (sym (ne_eqb _ _ (λ same. c.if-c-id.false (ap (λ x. x.id) c.certificate-c.ensures ∙ same))))),
+          any_back no_certificate _ (v.i - 1) _ false false {j = v.i} v.invariant.2 (omega arith) (omega arith)
+          (sym (ne_eqb _ _ (λ same. c.if-c-id.false (ap (λ x. x.id) c.certificate-c.ensures ∙ same))))),
       (let a = c.args in
-    let v = c.loop-i in
-    any_back no_certificate _ (v.i - 1) (in_another a.key a.domain) false false {j = v.i} v.invariant.3 (omega arith) (omega arith)
-    (sym c.if-in_another.false ∙ c.in_another.ensures ∙ ap (in_another a.key a.domain) c.certificate-c.ensures)),
+          let v = c.loop-i in
+          any_back no_certificate _ (v.i - 1) (in_another a.key a.domain) false false {j = v.i} v.invariant.3 (omega arith) (omega arith)
+          (sym c.if-in_another.false ∙ c.in_another.ensures ∙ ap (in_another a.key a.domain) c.certificate-c.ensures)),
       place_back _ no_certificate _ (v.i - 1) v.invariant.4 (omega arith) (omega arith) (ne_eqb _ _ (λ zero. c.if-c-ne0.true (ap (λ x. x.id) held ∙ zero))),
     )
 
@@ -63,12 +61,12 @@ loop-i-preserved c =
       omega arith,
       search rules,
       (let v = c.loop-i in
-    any_back no_certificate _ (v.i - 1) _ false false {j = v.i} v.invariant.2 (omega arith) (omega arith)
-    (sym (ne_eqb _ _ (λ same. c.if-c-id.false (ap (λ x. x.id) c.certificate-c.ensures ∙ same))))),
+          any_back no_certificate _ (v.i - 1) _ false false {j = v.i} v.invariant.2 (omega arith) (omega arith)
+          (sym (ne_eqb _ _ (λ same. c.if-c-id.false (ap (λ x. x.id) c.certificate-c.ensures ∙ same))))),
       (let a = c.args in
-    let v = c.loop-i in
-    any_back no_certificate _ (v.i - 1) (in_another a.key a.domain) false false {j = v.i} v.invariant.3 (omega arith) (omega arith)
-    (sym c.if-in_another.false ∙ c.in_another.ensures ∙ ap (in_another a.key a.domain) c.certificate-c.ensures)),
+          let v = c.loop-i in
+          any_back no_certificate _ (v.i - 1) (in_another a.key a.domain) false false {j = v.i} v.invariant.3 (omega arith) (omega arith)
+          (sym c.if-in_another.false ∙ c.in_another.ensures ∙ ap (in_another a.key a.domain) c.certificate-c.ensures)),
       place_back_here _ no_certificate _ (v.i - 1) (omega arith) (eq-eqb _ _ (ap (λ x. x.id) (sym held) ∙ c.if-c-ne0.false)),
     )
 

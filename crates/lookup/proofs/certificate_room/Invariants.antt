@@ -1,13 +1,8 @@
-use borrow.{Author.Rules.rules, Author.Tests.{eq-eqb, ne_eqb}}
-use native.Mathlib.Omega.{arith}
-use Prim.Native.Nat.{ℕ, ◌+◌, ◌≤◌, ◌-◌}
-use mathlib.Core.{List.List, Bool.false, Path.{◌≡◌, sym, ap, ◌∙◌}}
+use Prim.Native.Nat.{ℕ, ◌+◌, ◌≤◌}
+use mathlib.Core.{List.List, Bool.false, Path.{◌≡◌}}
 use lib.ListN.{length, drop}
-use Rattle.records.specs.Phone.{decode, no_certificate}
+use Rattle.records.specs.Phone.{decode}
 use Rattle.rules.specs.{Words.{any, first_place}, Codes.{has_id, in_another}}
-use Rattle.laws.proofs.Loops.{any_back, any_back_done, any_end}
-use Rattle.laws.proofs.Places.{place_back_here, place_back, place_back_done, place_back_end, place_none, place_some, somewhere}
-use Rattle.lookup.proofs.SweptRoom.{certificate_taken, certificate_elsewhere, certificate_full, certificate_free}
 use Rattle.lookup.proofs.certificate_room.Given as goal
 
 -- no slot from slot i on has the id, and none has the key in another domain

@@ -1,13 +1,9 @@
-use native.{Mathlib.Nat.zero-add, Mathlib.Omega.arith}
-use borrow.Author.Rules.{rules}
 use Prim.Native.Nat.{◌≤◌, ◌-◌}
 use lib.ListN.{length}
-use mathlib.Core.Path.{◌≡◌, sym, ◌∙◌}
-use Rattle.records.specs.Phone.{decode, no_certificate}
+use mathlib.Core.Path.{◌≡◌}
+use Rattle.records.specs.Phone.{decode}
 use Rattle.rules.specs.Codes.{has_id}
 use Rattle.lookup.specs.RoomForOne.{Passed}
-use Rattle.laws.proofs.Places.{place_next}
-use Rattle.lookup.proofs.FoundSlot.{found_here, found_nowhere}
 use Rattle.lookup.proofs.certificate_slot.Given as goal
 
 abbrev pub invariant-loop-i : goal.invariant-loop-i

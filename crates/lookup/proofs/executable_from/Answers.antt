@@ -1,11 +1,7 @@
 use borrow.Author.Rules.{rules}
 use native.Mathlib.Omega.{arith}
-use Prim.Native.Nat.{◌≤◌, ◌-◌}
-use lib.ListN.{length}
-use mathlib.Core.Path.{◌≡◌, sym, ◌∙◌}
-use Rattle.records.specs.Phone.{decode, no_executable}
-use Rattle.rules.specs.Codes.{is_executable}
-use Rattle.lookup.specs.RoomForOne.{Passed}
+use mathlib.Core.Path.{sym, ◌∙◌}
+use Rattle.records.specs.Phone.{no_executable}
 use Rattle.laws.proofs.Places.{place_next}
 use Rattle.lookup.proofs.FoundSlot.{found_here, found_nowhere}
 use Rattle.lookup.proofs.executable_from.Goals as goal

@@ -1,13 +1,10 @@
-use borrow.{Author.Rules.rules, Author.Tests.{not-true, not-false}}
+use borrow.{Author.Rules.rules}
 use native.Mathlib.Omega.{arith}
-use Prim.Native.Nat.{ℕ, ◌+◌, ◌≤◌, ◌-◌}
-use mathlib.Core.{List.List, Bool.false, Path.{◌≡◌, sym, ◌∙◌}}
-use lib.ListN.{length, drop}
-use Rattle.records.specs.Phone.{decode, no_executable}
-use Rattle.rules.specs.{Words.{any, first_place}, Codes.is_executable}
+use Prim.Native.Nat.{◌-◌}
+use mathlib.Core.{Bool.false, Path.{sym, ◌∙◌}}
+use Rattle.records.specs.Phone.{no_executable}
 use Rattle.laws.proofs.{Loops.{any_back, any_back_done, any_end}, Places.{place_back_here, place_back, place_back_done, place_back_end, somewhere}}
 use Rattle.lookup.proofs.SweptRoom.{executable_taken, executable_full, executable_free}
-use Rattle.lookup.proofs.executable_room.Invariants.{Absent}
 use Rattle.lookup.proofs.executable_room.Goals as goal
 
 pub loop-i-init : goal.loop-i-init
@@ -27,8 +24,8 @@ loop-i-preserved-then-not-executable_has_id c =
       search rules,
       search rules,
       (let v = c.loop-i in
-    let other = sym c.if-executable_has_id.false ∙ c.executable_has_id.ensures in
-    any_back no_executable _ (v.i - 1) _ false false {j = v.i} v.invariant.2 (omega arith) (omega arith) other),
+          let other = sym c.if-executable_has_id.false ∙ c.executable_has_id.ensures in
+          any_back no_executable _ (v.i - 1) _ false false {j = v.i} v.invariant.2 (omega arith) (omega arith) other),
       place_back _ no_executable _ (v.i - 1) v.invariant.3 (omega arith) (omega arith) used,
     )
 
@@ -38,8 +35,8 @@ loop-i-preserved c =
       search rules,
       search rules,
       (let v = c.loop-i in
-    let other = sym c.if-executable_has_id.false ∙ c.executable_has_id.ensures in
-    any_back no_executable _ (v.i - 1) _ false false {j = v.i} v.invariant.2 (omega arith) (omega arith) other),
+          let other = sym c.if-executable_has_id.false ∙ c.executable_has_id.ensures in
+          any_back no_executable _ (v.i - 1) _ false false {j = v.i} v.invariant.2 (omega arith) (omega arith) other),
       place_back_here _ no_executable _ (v.i - 1) (omega arith) (sym c.executable_has_id-in-loop-i.ensures ∙ c.if-not-executable_has_id.false),
     )
 

@@ -1,12 +1,8 @@
-use borrow.{Author.Rules.rules, Author.Tests.{not-true, not-false}}
-use native.Mathlib.Omega.{arith}
-use Prim.Native.Nat.{ℕ, ◌+◌, ◌≤◌, ◌-◌}
-use mathlib.Core.{List.List, Bool.false, Path.{◌≡◌, sym, ◌∙◌}}
+use Prim.Native.Nat.{ℕ, ◌+◌, ◌≤◌}
+use mathlib.Core.{List.List, Bool.false, Path.{◌≡◌}}
 use lib.ListN.{length, drop}
-use Rattle.records.specs.Phone.{decode, no_executable}
+use Rattle.records.specs.Phone.{decode}
 use Rattle.rules.specs.{Words.{any, first_place}, Codes.is_executable}
-use Rattle.laws.proofs.{Loops.{any_back, any_back_done, any_end}, Places.{place_back_here, place_back, place_back_done, place_back_end, somewhere}}
-use Rattle.lookup.proofs.SweptRoom.{executable_taken, executable_full, executable_free}
 use Rattle.lookup.proofs.executable_room.Given as goal
 
 -- no slot from slot i on has the id

@@ -1,11 +1,8 @@
 use native.{Mathlib.Nat.zero-add, Mathlib.Omega.arith}
 use borrow.Author.Rules.{rules}
-use Prim.Native.Nat.{ℕ, ◌+◌, ◌≤◌, ◌-◌}
-use lib.ListN.{length}
-use mathlib.Core.Path.{◌≡◌, sym, ◌∙◌}
-use Rattle.records.specs.Phone.{decode, no_executable}
-use Rattle.rules.specs.Codes.{is_executable}
-use Rattle.lookup.specs.RoomForOne.{Passed}
+use Prim.Native.Nat.{◌+◌}
+use mathlib.Core.Path.{sym, ◌∙◌}
+use Rattle.records.specs.Phone.{no_executable}
 use Rattle.laws.proofs.Places.{place_next, place_past}
 use Rattle.lookup.proofs.FoundSlot.{found_here}
 use Rattle.lookup.proofs.executable_slot.Goals as goal
@@ -40,11 +37,15 @@ returns-then-executable_has_id-4 c =
     place_next _ no_executable _ v.i v.invariant.2 (omega arith) (sym c.executable_has_id.ensures ∙ c.if-executable_has_id.false)) (omega arith) (sym c.executable_has_id-in-loop-i.ensures ∙ c.if-executable_has_id-2.false)) (omega arith) (sym c.executable_has_id-in-loop-i-2.ensures ∙ c.if-executable_has_id-3.false)) (omega arith) (sym c.executable_has_id-in-loop-i-3.ensures ∙ c.if-executable_has_id-4.true)
 
 pub loop-i-preserved : goal.loop-i-preserved
-loop-i-preserved c = (omega arith, search rules, (let i = c.loop-i.i in
-    place_past _ no_executable _ (i + 3) (omega arith) (let i = c.loop-i.i in
-    place_past _ no_executable _ (i + 2) (omega arith) (let i = c.loop-i.i in
-    place_past _ no_executable _ (i + 1) (omega arith) (let v = c.loop-i in
-    place_next _ no_executable _ v.i v.invariant.2 (omega arith) (sym c.executable_has_id.ensures ∙ c.if-executable_has_id.false)) (omega arith) (sym c.executable_has_id-in-loop-i.ensures ∙ c.if-executable_has_id-2.false)) (omega arith) (sym c.executable_has_id-in-loop-i-2.ensures ∙ c.if-executable_has_id-3.false)) (omega arith) (sym c.executable_has_id-in-loop-i-3.ensures ∙ c.if-executable_has_id-4.false)))
+loop-i-preserved c = (
+  omega arith,
+  search rules,
+  (let i = c.loop-i.i in
+      place_past _ no_executable _ (i + 3) (omega arith) (let i = c.loop-i.i in
+      place_past _ no_executable _ (i + 2) (omega arith) (let i = c.loop-i.i in
+      place_past _ no_executable _ (i + 1) (omega arith) (let v = c.loop-i in
+      place_next _ no_executable _ v.i v.invariant.2 (omega arith) (sym c.executable_has_id.ensures ∙ c.if-executable_has_id.false)) (omega arith) (sym c.executable_has_id-in-loop-i.ensures ∙ c.if-executable_has_id-2.false)) (omega arith) (sym c.executable_has_id-in-loop-i-2.ensures ∙ c.if-executable_has_id-3.false)) (omega arith) (sym c.executable_has_id-in-loop-i-3.ensures ∙ c.if-executable_has_id-4.false)),
+)
 
 pub executable_from-requires-clause-from_in_bounds : goal.executable_from-requires-clause-from_in_bounds
 executable_from-requires-clause-from_in_bounds c = let v = c.loop-i in omega arith

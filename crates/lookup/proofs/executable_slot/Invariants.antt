@@ -1,13 +1,9 @@
-use native.{Mathlib.Nat.zero-add, Mathlib.Omega.arith}
-use borrow.Author.Rules.{rules}
-use Prim.Native.Nat.{ℕ, ◌+◌, ◌≤◌, ◌-◌}
+use Prim.Native.Nat.{◌≤◌, ◌-◌}
 use lib.ListN.{length}
-use mathlib.Core.Path.{◌≡◌, sym, ◌∙◌}
-use Rattle.records.specs.Phone.{decode, no_executable}
+use mathlib.Core.Path.{◌≡◌}
+use Rattle.records.specs.Phone.{decode}
 use Rattle.rules.specs.Codes.{is_executable}
 use Rattle.lookup.specs.RoomForOne.{Passed}
-use Rattle.laws.proofs.Places.{place_next, place_past}
-use Rattle.lookup.proofs.FoundSlot.{found_here}
 use Rattle.lookup.proofs.executable_slot.Given as goal
 
 abbrev pub invariant-loop-i : goal.invariant-loop-i

@@ -1,11 +1,7 @@
 use native.{Mathlib.Nat.zero-add, Mathlib.Omega.arith}
 use borrow.Author.Rules.{rules}
-use Prim.Native.Nat.{◌≤◌, ◌-◌}
-use lib.ListN.{length}
-use mathlib.Core.Path.{◌≡◌, sym, ◌∙◌}
-use Rattle.records.specs.Phone.{decode, no_certificate}
-use Rattle.rules.specs.Codes.{has_id}
-use Rattle.lookup.specs.RoomForOne.{Passed}
+use mathlib.Core.Path.{sym, ◌∙◌}
+use Rattle.records.specs.Phone.{no_certificate}
 use Rattle.laws.proofs.Places.{place_here, place_next, place_end}
 use Rattle.lookup.proofs.first_place.Goals as goal
 

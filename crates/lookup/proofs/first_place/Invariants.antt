@@ -1,12 +1,9 @@
-use native.{Mathlib.Nat.zero-add, Mathlib.Omega.arith}
-use borrow.Author.Rules.{rules}
 use Prim.Native.Nat.{◌≤◌, ◌-◌}
 use lib.ListN.{length}
-use mathlib.Core.Path.{◌≡◌, sym, ◌∙◌}
-use Rattle.records.specs.Phone.{decode, no_certificate}
+use mathlib.Core.Path.{◌≡◌}
+use Rattle.records.specs.Phone.{decode}
 use Rattle.rules.specs.Codes.{has_id}
 use Rattle.lookup.specs.RoomForOne.{Passed}
-use Rattle.laws.proofs.Places.{place_here, place_next, place_end}
 use Rattle.lookup.proofs.first_place.Given as goal
 
 abbrev pub invariant-loop-i : goal.invariant-loop-i

@@ -1,12 +1,10 @@
 use borrow.Author.Rules.{rules}
 use native.Mathlib.Omega.{arith}
-use Prim.Native.Nat.{ℕ, ◌≤◌, ◌-◌}
-use mathlib.Core.{List.List, Path.{◌≡◌, refl, sym, ap, ◌∙◌}, Bool.{Bool, ◌&&◌}}
-use lib.{ListN.{length, drop}, Dec.eqb}
-use Rattle.records.specs.{Phone.{decode, no_certificate}, declared.Certificate.Certificate}
-use Rattle.rules.specs.{Words.any, ImageRules.{valid_in, has_valid_operator}}
+use mathlib.Core.{Path.{refl, sym, ap, ◌∙◌}}
+use Rattle.records.specs.{Phone.{decode, no_certificate}}
+use Rattle.rules.specs.{ImageRules.{has_valid_operator}}
 use Rattle.laws.proofs.Loops.{any_stops, any_goes_on, any_fails}
-use Rattle.lookup.proofs.has_valid_operator.Invariants.{asked, some}
+use Rattle.lookup.proofs.has_valid_operator.Invariants.{asked}
 use Rattle.lookup.proofs.has_valid_operator.Goals as goal
 
 pub loop-i-init : goal.loop-i-init

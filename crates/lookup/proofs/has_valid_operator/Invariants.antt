@@ -1,11 +1,8 @@
-use borrow.Author.Rules.{rules}
-use native.Mathlib.Omega.{arith}
 use Prim.Native.Nat.{ℕ, ◌≤◌, ◌-◌}
-use mathlib.Core.{List.List, Path.{◌≡◌, refl, sym, ap, ◌∙◌}, Bool.{Bool, ◌&&◌}}
+use mathlib.Core.{List.List, Path.{◌≡◌}, Bool.{Bool, ◌&&◌}}
 use lib.{ListN.{length, drop}, Dec.eqb}
-use Rattle.records.specs.{Phone.{decode, no_certificate}, declared.Certificate.Certificate}
-use Rattle.rules.specs.{Words.any, ImageRules.{valid_in, has_valid_operator}}
-use Rattle.laws.proofs.Loops.{any_stops, any_goes_on, any_fails}
+use Rattle.records.specs.{Phone.{decode}, declared.Certificate.Certificate}
+use Rattle.rules.specs.{Words.any, ImageRules.{valid_in}}
 use Rattle.lookup.proofs.has_valid_operator.Given as goal
 
 -- a valid operator root in the place, and whether one of the list is it

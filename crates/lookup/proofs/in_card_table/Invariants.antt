@@ -1,11 +1,8 @@
-use borrow.{Author.Rules.rules, Author.Tests.{eq-eqb, ne_eqb}}
-use native.Mathlib.Omega.{arith}
 use Prim.Native.Nat.{ℕ, ◌≤◌, ◌-◌}
-use mathlib.Core.{Bool.Bool, Path.{◌≡◌, refl}}
+use mathlib.Core.{Bool.Bool, Path.{◌≡◌}}
 use lib.{ListN.{length, drop}, Dec.eqb}
-use Rattle.records.specs.{Phone.{decode, no_card}, declared.Card.Card}
-use Rattle.rules.specs.{Words.any, ImageRules.in_card_table}
-use Rattle.laws.proofs.Loops.{any_stops, any_goes_on, any_fails}
+use Rattle.records.specs.{Phone.{decode}, declared.Card.Card}
+use Rattle.rules.specs.{Words.any}
 use Rattle.lookup.proofs.in_card_table.Given as goal
 
 abbrev pub numbered : ℕ → Card → Bool

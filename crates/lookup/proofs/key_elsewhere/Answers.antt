@@ -1,12 +1,9 @@
 use borrow.Author.Rules.{rules}
 use native.Mathlib.Omega.{arith}
-use Prim.Native.Nat.{ℕ, ◌≤◌, ◌-◌}
-use mathlib.Core.{Bool.Bool, List.List, Path.{◌≡◌, refl, sym, ◌∙◌}}
-use lib.ListN.{length, drop}
-use Rattle.records.specs.{Phone.{decode, no_certificate}, declared.Certificate.Certificate}
-use Rattle.rules.specs.{Words.any, Codes.in_another}
+use mathlib.Core.{Path.{refl, sym, ◌∙◌}}
+use Rattle.records.specs.{Phone.{no_certificate}}
+use Rattle.rules.specs.{Codes.in_another}
 use Rattle.laws.proofs.Loops.{any_stops, any_goes_on, any_fails}
-use Rattle.lookup.proofs.key_elsewhere.Invariants.{some}
 use Rattle.lookup.proofs.key_elsewhere.Goals as goal
 
 pub loop-i-init : goal.loop-i-init

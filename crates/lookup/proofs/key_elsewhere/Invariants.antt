@@ -1,11 +1,8 @@
-use borrow.Author.Rules.{rules}
-use native.Mathlib.Omega.{arith}
 use Prim.Native.Nat.{ℕ, ◌≤◌, ◌-◌}
-use mathlib.Core.{Bool.Bool, List.List, Path.{◌≡◌, refl, sym, ◌∙◌}}
+use mathlib.Core.{Bool.Bool, List.List, Path.{◌≡◌}}
 use lib.ListN.{length, drop}
-use Rattle.records.specs.{Phone.{decode, no_certificate}, declared.Certificate.Certificate}
+use Rattle.records.specs.{Phone.{decode}, declared.Certificate.Certificate}
 use Rattle.rules.specs.{Words.any, Codes.in_another}
-use Rattle.laws.proofs.Loops.{any_stops, any_goes_on, any_fails}
 use Rattle.lookup.proofs.key_elsewhere.Given as goal
 
 -- whether a certificate of the list, of another domain, has the key

@@ -1,4 +1,4 @@
-use borrow.{Author.Tests.{eq-eqb, ne_eqb}, Author.Rules.rules}
+use borrow.{Author.Tests.{eq-eqb, ne_eqb}}
 use Rattle.rules.specs.ImageRules.{known_place}
 use Rattle.lookup.proofs.known_place.Goals as goal
 

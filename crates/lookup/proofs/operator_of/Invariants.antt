@@ -1,11 +1,8 @@
-use borrow.{Author.Rules.rules, Author.Tests.{eq-eqb, ne_eqb}}
-use native.Mathlib.Omega.{arith}
 use Prim.Native.Nat.{ℕ, ◌≤◌, ◌-◌}
-use mathlib.Core.{Bool.Bool, Path.{◌≡◌, refl, sym, ap, ◌∙◌}}
+use mathlib.Core.{Bool.Bool, Path.{◌≡◌}}
 use lib.{ListN.{length, drop}, Dec.eqb}
 use Rattle.records.specs.{Phone.{decode, no_card}, declared.Card.Card}
-use Rattle.rules.specs.{Words.find, ImageRules.operator_of}
-use Rattle.laws.proofs.Loops.{find_here, find_next, find_end}
+use Rattle.rules.specs.{Words.find}
 use Rattle.lookup.proofs.operator_of.Given as goal
 
 abbrev pub numbered : ℕ → Card → Bool

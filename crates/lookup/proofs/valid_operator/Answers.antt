@@ -1,4 +1,3 @@
-use borrow.{Author.Tests.{not-true, not-false}, Author.Rules.rules}
 use mathlib.Core.{Bool.{Bool, true, false, ◌&&◌}, Path.{◌≡◌, sym, ap, ◌∙◌}}
 use Rattle.lookup.proofs.valid_operator.Goals as goal
 

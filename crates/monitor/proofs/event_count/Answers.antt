@@ -1,5 +1,4 @@
 use Rattle.monitor.proofs.RunLaws.{count_whole, count_short}
-use borrow.Author.Rules.{rules}
 use Rattle.monitor.proofs.event_count.Goals as goal
 
 pub returns-then-n-eq0 : goal.returns-then-n-eq0

@@ -1,10 +1,7 @@
-use mathlib.Core.Path.{◌≡◌, refl}
-use Prim.Native.Nat.{◌-◌}
-use lib.ListN.{length}
+use mathlib.Core.Path.{refl}
 use native.Mathlib.Omega.{arith}
 use borrow.Author.Rules.{rules}
-use Rattle.rules.specs.AcceptedImage.{AcceptedImage}
-use Rattle.monitor.proofs.RunLaws.{Left, left_all, left_less, left_none}
+use Rattle.monitor.proofs.RunLaws.{left_all, left_less, left_none}
 use Rattle.monitor.proofs.follow.Goals as goal
 
 pub loop-i-init : goal.loop-i-init

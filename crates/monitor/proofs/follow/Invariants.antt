@@ -1,10 +1,8 @@
-use mathlib.Core.Path.{◌≡◌, refl}
+use mathlib.Core.Path.{◌≡◌}
 use Prim.Native.Nat.{◌-◌}
 use lib.ListN.{length}
-use native.Mathlib.Omega.{arith}
-use borrow.Author.Rules.{rules}
 use Rattle.rules.specs.AcceptedImage.{AcceptedImage}
-use Rattle.monitor.proofs.RunLaws.{Left, left_all, left_less, left_none}
+use Rattle.monitor.proofs.RunLaws.{Left}
 use Rattle.monitor.proofs.follow.Given as goal
 
 abbrev pub invariant-loop-i : goal.invariant-loop-i

@@ -1,5 +1,4 @@
 use mathlib.Core.Path.{ap, ◌∙◌}
-use borrow.Author.Rules.{rules}
 use Rattle.monitor.specs.Told.{packed}
 use Rattle.monitor.proofs.monitor_open.Goals as goal
 

@@ -1,7 +1,6 @@
 use Prim.Native.Nat.{◌*◌}
 use native.Mathlib.Omega.{arith}
 use Rattle.monitor.proofs.RunLaws.{last_event, whole_event, stepped_same}
-use borrow.Author.Rules.{rules}
 use Rattle.monitor.proofs.one.Goals as goal
 
 pub returns-then-events-at-lt-SIZE : goal.returns-then-events-at-lt-SIZE

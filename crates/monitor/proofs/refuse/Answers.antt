@@ -1,7 +1,6 @@
-use Prim.Native.Nat.{◌-◌}
 use native.Mathlib.Omega.{arith}
 use borrow.Author.Rules.{rules}
-use Rattle.monitor.proofs.RunLaws.{Untold, untold_all, untold_less, untold_none}
+use Rattle.monitor.proofs.RunLaws.{untold_all, untold_less, untold_none}
 use Rattle.monitor.proofs.refuse.Goals as goal
 
 pub loop-i-init : goal.loop-i-init

@@ -1,7 +1,5 @@
 use Prim.Native.Nat.{◌-◌}
-use native.Mathlib.Omega.{arith}
-use borrow.Author.Rules.{rules}
-use Rattle.monitor.proofs.RunLaws.{Untold, untold_all, untold_less, untold_none}
+use Rattle.monitor.proofs.RunLaws.{Untold}
 use Rattle.monitor.proofs.refuse.Given as goal
 
 abbrev pub invariant-loop-i : goal.invariant-loop-i

@@ -2,7 +2,6 @@ use Prim.Native.Nat.{◌*◌}
 use lib.ListN.{length-set}
 use native.{Mathlib.Numerals.towards_suc, Mathlib.Omega.arith}
 use Rattle.octets.proofs.ByteLaws.{sets_put}
-use borrow.Author.Rules.{rules}
 use Rattle.monitor.proofs.tell.Goals as goal
 
 pub bounds-answers-at-2 : goal.bounds-answers-at-2

@@ -1,10 +1,7 @@
-use borrow.Author.Rules.{rules}
-use native.Mathlib.Omega.{arith}
-use mathlib.Core.Path.{◌≡◌, sym, ap, ◌∙◌}
-use Prim.Native.Nat.{ℕ, ◌≤◌, ◌-◌}
+use mathlib.Core.Path.{◌≡◌}
+use Prim.Native.Nat.{◌≤◌, ◌-◌}
 use lib.ListN.{length}
 use Rattle.octets.specs.Octets.{put, zeros}
-use Rattle.octets.proofs.ByteLaws.{put_none, zeros_next}
 use Rattle.octets.proofs.clear.Given as goal
 
 abbrev pub invariant-loop-k : goal.invariant-loop-k

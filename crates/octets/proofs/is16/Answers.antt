@@ -1,6 +1,5 @@
 use native.Mathlib.Omega.{arith}
 use Rattle.octets.proofs.ByteLaws.{low_differs}
-use borrow.Author.Rules.{rules}
 use Rattle.octets.proofs.is16.Goals as goal
 
 pub returns-then-read8-n : goal.returns-then-read8-n

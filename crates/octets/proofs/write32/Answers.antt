@@ -1,7 +1,6 @@
 use mathlib.Core.Path.{sym}
 use Rattle.octets.proofs.ByteLaws.{put_none, put_next}
 use native.Mathlib.Omega.{arith}
-use borrow.Author.Rules.{rules}
 use Rattle.octets.proofs.write32.Goals as goal
 
 pub returns : goal.returns

@@ -1,6 +1,5 @@
 use Rattle.opening.proofs.ByParts.{there, nowhere}
 use mathlib.Core.Path.{◌∙◌}
-use borrow.Author.Rules.{rules}
 use Rattle.opening.proofs.at_card.Goals as goal
 
 pub returns-then-i-card_count : goal.returns-then-i-card_count

@@ -1,6 +1,5 @@
 use Rattle.opening.proofs.ByParts.{there, nowhere}
 use mathlib.Core.Path.{◌∙◌}
-use borrow.Author.Rules.{rules}
 use Rattle.opening.proofs.at_certificate.Goals as goal
 
 pub returns-then-i-certificate_slots : goal.returns-then-i-certificate_slots

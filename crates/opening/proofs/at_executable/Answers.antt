@@ -1,6 +1,5 @@
 use Rattle.opening.proofs.ByParts.{there, nowhere}
 use mathlib.Core.Path.{◌∙◌}
-use borrow.Author.Rules.{rules}
 use Rattle.opening.proofs.at_executable.Goals as goal
 
 pub returns-then-i-executable_slots : goal.returns-then-i-executable_slots

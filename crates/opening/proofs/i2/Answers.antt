@@ -1,5 +1,4 @@
 use Rattle.opening.proofs.ByParts.{i2_told}
-use borrow.Author.Rules.{rules}
 use Rattle.opening.proofs.i2.Goals as goal
 
 pub returns : goal.returns

@@ -1,5 +1,4 @@
 use Rattle.opening.proofs.ByParts.{i3_present, i3_places, i3_cards}
-use borrow.Author.Rules.{rules}
 use Rattle.opening.proofs.i3.Goals as goal
 
 pub returns-then-not-known_place : goal.returns-then-not-known_place

@@ -1,5 +1,4 @@
 use Rattle.opening.proofs.ByParts.{i5_told}
-use borrow.Author.Rules.{rules}
 use Rattle.opening.proofs.i5.Goals as goal
 
 pub returns : goal.returns

@@ -1,5 +1,4 @@
 use Rattle.opening.proofs.ByParts.{i6_told}
-use borrow.Author.Rules.{rules}
 use Rattle.opening.proofs.i6.Goals as goal
 
 pub returns : goal.returns

@@ -1,5 +1,4 @@
 use Rattle.opening.proofs.ByParts.{i7_told}
-use borrow.Author.Rules.{rules}
 use Rattle.opening.proofs.i7.Goals as goal
 
 pub returns : goal.returns

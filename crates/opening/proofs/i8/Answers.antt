@@ -1,5 +1,4 @@
 use Rattle.opening.proofs.ByParts.{i8_told}
-use borrow.Author.Rules.{rules}
 use Rattle.opening.proofs.i8.Goals as goal
 
 pub returns : goal.returns

@@ -1,6 +1,5 @@
 use Rattle.opening.proofs.Opens.{keeps_i6, keeps_i7, breaks_i6, breaks_i7, opens}
 use Rattle.laws.proofs.Accepts.{true_T}
-use borrow.Author.Rules.{rules}
 use Rattle.opening.proofs.last_fault.Goals as goal
 
 pub returns-then-found-ne0 : goal.returns-then-found-ne0

@@ -1,6 +1,5 @@
 use Rattle.opening.proofs.Offsets.{small}
 use native.Mathlib.Omega.{arith}
-use borrow.Author.Rules.{rules}
 use Rattle.opening.proofs.offset.Goals as goal
 
 pub overflow_mul-result : goal.overflow_mul-result

@@ -1,6 +1,5 @@
 use native.Mathlib.Omega.{arith}
 use Rattle.opening.proofs.Opens.{breaks_i1, is_framed, frames}
-use borrow.Author.Rules.{rules}
 use mathlib.Core.Bool.{not}
 use mathlib.Core.Path.{ap}
 use Rattle.opening.proofs.open.Goals as goal

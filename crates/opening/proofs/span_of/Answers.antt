@@ -1,6 +1,5 @@
 use Rattle.opening.proofs.Offsets.{header_stands, certificate_stands, card_headed, card_stands, executable_headed, executable_stands, row_headed}
 use Rattle.opening.proofs.Offsets.{row_stands}
-use borrow.Author.Rules.{rules}
 use Rattle.opening.proofs.span_of.Goals as goal
 
 pub cards_at-requires : goal.cards_at-requires

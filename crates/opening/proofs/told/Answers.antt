@@ -1,5 +1,4 @@
 use Rattle.opening.proofs.Offsets.{tells}
-use borrow.Author.Rules.{rules}
 use Rattle.opening.proofs.told.Goals as goal
 
 pub returns : goal.returns

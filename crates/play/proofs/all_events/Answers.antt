@@ -1,9 +1,7 @@
 use native.Mathlib.Omega.{arith}
-use mathlib.Core.Path.{sym, ◌≡◌}
-use Prim.Native.Nat.{◌-◌, ◌≤◌}
+use mathlib.Core.Path.{sym}
 use lib.{Seq.length-take-le, ListN.length}
 use borrow.Author.Rules.{rules}
-use Rattle.rules.specs.AcceptedImage.{AcceptedImage}
 use Rattle.stream.proofs.LinePlaces.{line_within}
 use Rattle.play.proofs.all_events.Goals as goal
 

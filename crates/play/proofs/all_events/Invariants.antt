@@ -1,10 +1,7 @@
-use native.Mathlib.Omega.{arith}
-use mathlib.Core.Path.{sym, ◌≡◌}
+use mathlib.Core.Path.{◌≡◌}
 use Prim.Native.Nat.{◌-◌, ◌≤◌}
-use lib.{Seq.length-take-le, ListN.length}
-use borrow.Author.Rules.{rules}
+use lib.{ListN.length}
 use Rattle.rules.specs.AcceptedImage.{AcceptedImage}
-use Rattle.stream.proofs.LinePlaces.{line_within}
 use Rattle.play.proofs.all_events.Given as goal
 
 abbrev pub invariant-loop-i : goal.invariant-loop-i

@@ -1,6 +1,5 @@
 use mathlib.Core.Path.{◌∙◌}
 use Rattle.reasons.proofs.FirstDomain.{unsigned_chain, operator_chain, manufacturer_chain, third_party_chain, no_chain}
-use borrow.Author.Rules.{rules}
 use Rattle.reasons.proofs.chain_of.Goals as goal
 
 pub returns-then-key-eq0 : goal.returns-then-key-eq0

@@ -1,8 +1,7 @@
 use borrow.Author.Rules.{rules}
 use native.Mathlib.Omega.{arith}
 use mathlib.Core.Path.{◌≡◌, ap, ◌∙◌}
-use Prim.Native.Nat.{◌≤◌, ◌-◌}
-use lib.ListN.{length, length-set, take}
+use lib.ListN.{length-set, take}
 use Rattle.octets.specs.Octets.{put}
 use Rattle.reasons.proofs.Room.{copy_none, copy_more}
 use Rattle.reasons.proofs.copy.Goals as goal

@@ -1,5 +1,4 @@
 use Rattle.reasons.proofs.Whole.{told_as, links_few, told_chained, told_unsigned, told_unheld, told_refused}
-use borrow.Author.Rules.{rules}
 use mathlib.Core.Bool.{not}
 use mathlib.Core.Path.{ap}
 use Rattle.reasons.proofs.explain_on.Goals as goal

@@ -1,4 +1,4 @@
-use borrow.{Author.Tests.{eq-eqb, ne_eqb}, Author.Rules.rules}
+use borrow.{Author.Tests.{eq-eqb, ne_eqb}}
 use Rattle.explanations.specs.Why.{reason}
 use Rattle.reasons.proofs.Rows.{takes, skips, ends, not_is}
 use mathlib.Core.Bool.{not}

@@ -1,11 +1,8 @@
-use borrow.Author.Rules.{rules}
-use native.Mathlib.Omega.{arith}
-use Prim.Native.Nat.{◌≤◌, ◌-◌}
-use mathlib.Core.Path.{◌≡◌, refl, ◌∙◌}
+use Prim.Native.Nat.{◌≤◌}
+use mathlib.Core.Path.{◌≡◌}
 use lib.ListN.{length}
 use Rattle.records.specs.Phone.{decode}
 use Rattle.reasons.specs.Lines.{climbed_lines, with_lines}
-use Rattle.reasons.proofs.LinesPlaced.{chain_next, chain_none}
 use Rattle.reasons.proofs.tell_chain.Given as goal
 
 abbrev pub invariant-loop-left : goal.invariant-loop-left

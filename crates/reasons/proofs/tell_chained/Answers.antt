@@ -1,5 +1,4 @@
 use Rattle.reasons.proofs.Whole.{told_trusted, told_despite}
-use borrow.Author.Rules.{rules}
 use Rattle.reasons.proofs.tell_chained.Goals as goal
 
 pub returns-then-x-ne0 : goal.returns-then-x-ne0

@@ -1,10 +1,6 @@
 use borrow.Author.Rules.{rules}
 use native.Mathlib.Omega.{arith}
-use Prim.Native.Nat.{◌≤◌, ◌-◌}
-use mathlib.Core.Path.{◌≡◌}
-use lib.ListN.{length}
-use Rattle.records.specs.Phone.{decode}
-use Rattle.reasons.proofs.HolderLines.{Untold, rest_of, rest_all, rest_none, rest_stops, rest_goes_on}
+use Rattle.reasons.proofs.HolderLines.{rest_all, rest_none, rest_stops, rest_goes_on}
 use Rattle.reasons.proofs.tell_reasons.Goals as goal
 
 pub loop-i-init : goal.loop-i-init

@@ -5,7 +5,6 @@ use Prim.Native.Nat.{◌+◌}
 use Rattle.octets.specs.Octets.{put}
 use Rattle.stream.specs.PrintedLines.{line}
 use Rattle.stream.proofs.LinePlaces.{room_there}
-use borrow.Author.Rules.{rules}
 use Rattle.stream.proofs.add_line.Goals as goal
 
 pub put_line-requires : goal.put_line-requires

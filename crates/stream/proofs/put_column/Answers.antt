@@ -4,7 +4,6 @@ use mathlib.Core.{List.{List, [], ◌∷◌}, Path.{ap, ◌∙◌}}
 use Rattle.octets.specs.Octets.{put}
 use Rattle.records.proofs.Puts.{put_next}
 use Rattle.stream.specs.Decimal.{decimal}
-use borrow.Author.Rules.{rules}
 use Rattle.stream.proofs.put_column.Goals as goal
 
 pub returns : goal.returns

@@ -1,7 +1,6 @@
 use native.Mathlib.Omega.{arith}
 use mathlib.Core.Path.{refl}
 use Rattle.stream.proofs.JoinedTexts.{number_ends, column_ends, line_put}
-use borrow.Author.Rules.{rules}
 use Rattle.stream.proofs.put_line.Goals as goal
 
 pub put_column-kinded-requires : goal.put_column-kinded-requires

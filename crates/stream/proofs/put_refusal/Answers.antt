@@ -1,7 +1,6 @@
 use native.Mathlib.Omega.{arith}
 use mathlib.Core.Path.{refl}
 use Rattle.stream.proofs.JoinedTexts.{column_ends, refusal_put}
-use borrow.Author.Rules.{rules}
 use Rattle.stream.proofs.put_refusal.Goals as goal
 
 pub put_column-placed-requires : goal.put_column-placed-requires

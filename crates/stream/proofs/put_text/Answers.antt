@@ -2,7 +2,7 @@ use borrow.Author.Rules.{rules}
 use native.Mathlib.Omega.{arith}
 use mathlib.Core.{Path.{◌≡◌, ap, ◌∙◌}, List.List}
 use lib.{ListN.{length, length-set, set, get_or}, Seq.{paste, paste-zero, paste-suc}}
-use Prim.Native.Nat.{ℕ, suc, ◌+◌, ◌-◌, ◌≤◌}
+use Prim.Native.Nat.{ℕ, suc, ◌+◌}
 use Rattle.stream.proofs.Texts.{paste_put}
 use Rattle.stream.proofs.put_text.Goals as goal
 

@@ -1,9 +1,6 @@
-use borrow.Author.Rules.{rules}
-use native.Mathlib.Omega.{arith}
-use mathlib.Core.{Path.{◌≡◌, ap, ◌∙◌}, List.List}
-use lib.{ListN.{length, length-set, set, get_or}, Seq.{paste, paste-zero, paste-suc}}
-use Prim.Native.Nat.{ℕ, suc, ◌+◌, ◌-◌, ◌≤◌}
-use Rattle.stream.proofs.Texts.{paste_put}
+use mathlib.Core.{Path.{◌≡◌}}
+use lib.{ListN.{length}, Seq.{paste}}
+use Prim.Native.Nat.{◌-◌, ◌≤◌}
 use Rattle.stream.proofs.put_text.Given as goal
 
 abbrev pub invariant-loop-i : goal.invariant-loop-i

@@ -1,5 +1,5 @@
 use mathlib.Core.{Bool.{◌&&◌, ◌||◌, not, and-true}, Logic.◌≢◌, Path.{◌≡◌, ap}}
-use borrow.{Author.Tests.{eq-eqb, ne_eqb}, Author.Rules.rules}
+use borrow.{Author.Tests.{eq-eqb, ne_eqb}}
 use lib.Dec.{eqb}
 use Rattle.records.specs.declared.Certificate.{Certificate}
 use Rattle.rules.specs.{ImageRules.{certificate_ranges, root_fits, issued_fits, recovery_fits, certificate_fits}, Words.◌implies◌}

@@ -1,7 +1,6 @@
 use native.{Mathlib.Omega.arith, Mathlib.Nat.one-mul}
 use lib.{Pow.shl_exact, Dec.lit<}
 use Rattle.rules.specs.ImageRules.{executable_fits}
-use borrow.Author.Rules.{rules}
 use Rattle.terms.proofs.executable_fits.Goals as goal
 
 pub returns : goal.returns

@@ -1,4 +1,4 @@
-use borrow.{Author.Tests.{eq-eqb, ne_eqb}, Author.Rules.rules}
+use borrow.{Author.Tests.{eq-eqb, ne_eqb}}
 use Rattle.terms.proofs.executable_slot_fits.Goals as goal
 
 pub returns-then-x-eq0 : goal.returns-then-x-eq0

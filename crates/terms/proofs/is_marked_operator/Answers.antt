@@ -1,4 +1,3 @@
-use borrow.Author.Rules.{rules}
 use Rattle.terms.proofs.is_marked_operator.Goals as goal
 
 pub returns : goal.returns

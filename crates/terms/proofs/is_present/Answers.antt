@@ -1,5 +1,4 @@
 use Rattle.rules.specs.Chains.{present}
-use borrow.Author.Rules.{rules}
 use Rattle.terms.proofs.is_present.Goals as goal
 
 pub returns : goal.returns

@@ -1,4 +1,4 @@
-use borrow.{Author.Tests.{eq-eqb, ne_eqb}, Author.Rules.rules}
+use borrow.{Author.Tests.{eq-eqb, ne_eqb}}
 use Rattle.terms.proofs.slot_fits.Goals as goal
 
 pub returns-then-c-eq0 : goal.returns-then-c-eq0

@@ -1,5 +1,4 @@
 use Rattle.rules.specs.ImageRules.{valid_in}
-use borrow.Author.Rules.{rules}
 use Rattle.terms.proofs.valid_in.Goals as goal
 
 pub returns : goal.returns

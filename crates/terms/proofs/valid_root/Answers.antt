@@ -1,4 +1,3 @@
-use borrow.Author.Rules.{rules}
 use Rattle.rules.specs.Chains.{valid_root}
 use Rattle.terms.proofs.valid_root.Goals as goal
 

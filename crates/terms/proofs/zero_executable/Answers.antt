@@ -1,6 +1,5 @@
 use native.Mathlib.Nat.{add_assoc, add-zero}
 use Rattle.rules.specs.{ImageRules.zero_executable, Words.all_zero}
-use borrow.Author.Rules.{rules}
 use Rattle.terms.proofs.zero_executable.Goals as goal
 
 pub returns : goal.returns

@@ -1,4 +1,3 @@
-use borrow.Author.Rules.{rules}
 use Rattle.timeline.proofs.Framed.{framed_so, fits_not, fits_so}
 use mathlib.Core.Bool.{not}
 use mathlib.Core.Path.{ap}

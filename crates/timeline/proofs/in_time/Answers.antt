@@ -1,9 +1,6 @@
 use borrow.Author.Rules.{rules}
 use native.Mathlib.Omega.{arith}
-use Prim.Native.Nat.{◌≤◌, ◌-◌}
-use mathlib.Core.Path.{◌≡◌, refl}
-use lib.ListN.{drop}
-use Rattle.timeline.specs.Timeline.{timed_count, timed, in_time}
+use mathlib.Core.Path.{refl}
 use Rattle.timeline.proofs.Framed.{framed_header, in_time_stops, in_time_goes_on, in_time_ends}
 use mathlib.Core.Bool.{not}
 use mathlib.Core.Path.{ap}

@@ -1,12 +1,7 @@
-use borrow.Author.Rules.{rules}
-use native.Mathlib.Omega.{arith}
 use Prim.Native.Nat.{◌≤◌, ◌-◌}
-use mathlib.Core.Path.{◌≡◌, refl}
+use mathlib.Core.Path.{◌≡◌}
 use lib.ListN.{drop}
 use Rattle.timeline.specs.Timeline.{timed_count, timed, in_time}
-use Rattle.timeline.proofs.Framed.{framed_header, in_time_stops, in_time_goes_on, in_time_ends}
-use mathlib.Core.Bool.{not}
-use mathlib.Core.Path.{ap}
 use Rattle.timeline.proofs.in_time.Given as goal
 
 abbrev pub invariant-loop-i : goal.invariant-loop-i

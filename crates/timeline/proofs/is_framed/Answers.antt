@@ -1,4 +1,4 @@
-use borrow.{Author.Rules.rules, Author.Tests.{lt-leb, le-leb}}
+use borrow.{Author.Tests.{lt-leb, le-leb}}
 use Rattle.timeline.specs.Timeline.{timeline_framed}
 use Rattle.timeline.proofs.is_framed.Goals as goal
 

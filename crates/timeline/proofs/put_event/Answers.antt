@@ -1,5 +1,4 @@
 use native.Mathlib.Omega.{arith}
-use borrow.Author.Rules.{rules}
 use Rattle.timeline.proofs.EventsPlaced.{event_out, event_copied}
 use Rattle.timeline.proofs.put_event.Goals as goal
 

@@ -1,9 +1,7 @@
 use Prim.Native.Nat.{◌-◌}
 use mathlib.Core.Path.{◌≡◌}
-use native.Mathlib.Omega.{arith}
-use borrow.Author.Rules.{rules}
 use Rattle.timeline.specs.Timeline.{timed_count, timed, unrolled}
-use Rattle.timeline.proofs.{Framed.framed_header, EventsPlaced.{Unrolling, unrolling_starts, unrolling_goes_on, unrolling_ends}}
+use Rattle.timeline.proofs.{EventsPlaced.{Unrolling}}
 use Rattle.timeline.proofs.put_records.Given as goal
 
 abbrev pub invariant-loop-i : goal.invariant-loop-i

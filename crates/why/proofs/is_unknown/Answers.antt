@@ -2,7 +2,6 @@ use Prim.Native.Nat.{ℕ}
 use mathlib.Core.Path.{ap}
 use lib.Dec.{eqb}
 use Rattle.why.proofs.PrintedAnswer.{code_told}
-use borrow.Author.Rules.{rules}
 use Rattle.why.proofs.is_unknown.Goals as goal
 
 pub returns : goal.returns

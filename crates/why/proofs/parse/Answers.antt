@@ -1,8 +1,7 @@
-use Prim.Native.Nat.{◌-◌, ◌^◌, ◌≤◌, ◌<◌}
-use mathlib.Core.Path.{◌≡◌, sym, ◌∙◌}
+use Prim.Native.Nat.{◌-◌}
+use mathlib.Core.Path.{sym, ◌∙◌}
 use native.Mathlib.Omega.{arith}
-use lib.ListN.{length, get_or, drop}
-use Rattle.why.specs.Number.{number_from, number}
+use lib.ListN.{get_or}
 use Rattle.why.proofs.Numbers.{number_none, number_long, number_read, number_low, number_high, number_more, number_ends, few_places, place_more}
 use Rattle.why.proofs.parse.Goals as goal
 

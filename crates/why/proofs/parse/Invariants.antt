@@ -1,9 +1,7 @@
 use Prim.Native.Nat.{◌-◌, ◌^◌, ◌≤◌, ◌<◌}
-use mathlib.Core.Path.{◌≡◌, sym, ◌∙◌}
-use native.Mathlib.Omega.{arith}
-use lib.ListN.{length, get_or, drop}
+use mathlib.Core.Path.{◌≡◌}
+use lib.ListN.{length, drop}
 use Rattle.why.specs.Number.{number_from, number}
-use Rattle.why.proofs.Numbers.{number_none, number_long, number_read, number_low, number_high, number_more, number_ends, few_places, place_more}
 use Rattle.why.proofs.parse.Given as goal
 
 -- the first i bytes are digits that make n, and what is left of the word goes on from there

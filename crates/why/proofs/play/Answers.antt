@@ -1,4 +1,3 @@
-use borrow.Author.Rules.{rules}
 use Rattle.why.proofs.play.Goals as goal
 
 pub run_events-requires-clause-accepted_image : goal.run_events-requires-clause-accepted_image

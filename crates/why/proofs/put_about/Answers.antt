@@ -2,7 +2,6 @@ use native.Mathlib.Omega.{arith}
 use mathlib.Core.Path.{refl}
 use Rattle.stream.proofs.JoinedTexts.{number_ends}
 use Rattle.why.proofs.Sentences.{about_put}
-use borrow.Author.Rules.{rules}
 use Rattle.why.proofs.put_about.Goals as goal
 
 pub put_text-requires-2 : goal.put_text-requires-2

@@ -1,6 +1,5 @@
 use native.Mathlib.Omega.{arith}
 use Rattle.why.proofs.PrintedAnswer.{said_first, text_refused, text_unknown, lines_told, text_page}
-use borrow.Author.Rules.{rules}
 use Rattle.why.proofs.put_answer.Goals as goal
 
 pub returns-then-told-eq1 : goal.returns-then-told-eq1

@@ -2,7 +2,6 @@ use native.Mathlib.Omega.{arith}
 use Rattle.why.specs.SentenceText.{certificate, ended, is_verified_by, about}
 use Rattle.stream.proofs.JoinedTexts.{then, said}
 use Rattle.why.proofs.Sentences.{about_ends, link_first, link_next}
-use borrow.Author.Rules.{rules}
 use Rattle.why.proofs.put_link.Goals as goal
 
 pub returns-then-above-eq0 : goal.returns-then-above-eq0

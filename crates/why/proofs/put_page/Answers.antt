@@ -1,12 +1,11 @@
-use Prim.Native.Nat.{ℕ, ◌*◌, ◌-◌, ◌≤◌}
+use Prim.Native.Nat.{ℕ}
 use mathlib.Core.Path.{◌≡◌, refl, subst}
 use native.Mathlib.Omega.{arith}
 use lib.ListN.{length}
 use Rattle.octets.specs.Octets.{put}
 use Rattle.explanations.specs.Why.{line}
-use Rattle.stream.proofs.JoinedTexts.{Put}
-use Rattle.why.specs.SentenceText.{longest_sentence, page, lines_said}
-use Rattle.why.proofs.{Sentences.sentence_small, Pages.{last_id, page_none, page_next}}
+use Rattle.why.specs.SentenceText.{page, lines_said}
+use Rattle.why.proofs.{Sentences.sentence_small, Pages.{page_none, page_next}}
 use Rattle.why.proofs.put_page.Goals as goal
 
 pub loop-i-init : goal.loop-i-init

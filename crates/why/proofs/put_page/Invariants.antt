@@ -1,12 +1,9 @@
-use Prim.Native.Nat.{ℕ, ◌*◌, ◌-◌, ◌≤◌}
-use mathlib.Core.Path.{◌≡◌, refl, subst}
-use native.Mathlib.Omega.{arith}
+use Prim.Native.Nat.{◌*◌, ◌-◌, ◌≤◌}
+use mathlib.Core.Path.{◌≡◌}
 use lib.ListN.{length}
-use Rattle.octets.specs.Octets.{put}
-use Rattle.explanations.specs.Why.{line}
 use Rattle.stream.proofs.JoinedTexts.{Put}
 use Rattle.why.specs.SentenceText.{longest_sentence, page, lines_said}
-use Rattle.why.proofs.{Sentences.sentence_small, Pages.{last_id, page_none, page_next}}
+use Rattle.why.proofs.{Pages.{last_id}}
 use Rattle.why.proofs.put_page.Given as goal
 
 -- the page of the first i lines stands, and the id above the next is that of the last of them

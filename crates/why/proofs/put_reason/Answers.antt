@@ -3,7 +3,6 @@ use mathlib.Core.Path.{ap}
 use Rattle.why.specs.SentenceText.{reason_sentence}
 use Rattle.stream.proofs.JoinedTexts.{said, nothing}
 use Rattle.why.proofs.Sentences.{reason_none}
-use borrow.Author.Rules.{rules}
 use Rattle.why.proofs.put_reason.Goals as goal
 
 pub returns-in-10 : goal.returns-in-10

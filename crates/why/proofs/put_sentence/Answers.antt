@@ -4,7 +4,6 @@ use Rattle.explanations.specs.Why.{line}
 use Rattle.why.specs.SentenceText.{sentence}
 use Rattle.stream.proofs.JoinedTexts.{said}
 use Rattle.why.proofs.Sentences.{sentence_reason}
-use borrow.Author.Rules.{rules}
 use Rattle.why.proofs.put_sentence.Goals as goal
 
 pub returns-in-1 : goal.returns-in-1

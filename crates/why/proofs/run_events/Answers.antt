@@ -1,10 +1,7 @@
-use Prim.Native.Nat.{◌-◌, ◌≤◌}
-use mathlib.Core.Path.{sym, ◌≡◌}
+use mathlib.Core.Path.{sym}
 use native.Mathlib.Omega.{arith}
 use borrow.Author.Rules.{rules}
-use lib.{ListN.length, Seq.length-take-le}
-use Rattle.rules.specs.AcceptedImage.{AcceptedImage}
-use Rattle.why.specs.EventsRun.{RanAtMost}
+use lib.{Seq.length-take-le}
 use Rattle.why.proofs.RunOfEvents.{ran_none, ran_one_more, ran_fewer}
 use Rattle.why.proofs.run_events.Goals as goal
 

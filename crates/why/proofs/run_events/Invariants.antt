@@ -1,11 +1,8 @@
 use Prim.Native.Nat.{◌-◌, ◌≤◌}
-use mathlib.Core.Path.{sym, ◌≡◌}
-use native.Mathlib.Omega.{arith}
-use borrow.Author.Rules.{rules}
-use lib.{ListN.length, Seq.length-take-le}
+use mathlib.Core.Path.{◌≡◌}
+use lib.{ListN.length}
 use Rattle.rules.specs.AcceptedImage.{AcceptedImage}
 use Rattle.why.specs.EventsRun.{RanAtMost}
-use Rattle.why.proofs.RunOfEvents.{ran_none, ran_one_more, ran_fewer}
 use Rattle.why.proofs.run_events.Given as goal
 
 abbrev pub invariant-loop-n : goal.invariant-loop-n

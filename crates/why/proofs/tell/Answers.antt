@@ -4,7 +4,6 @@ use lib.Seq.{length-take-le}
 use Rattle.stream.proofs.JoinedTexts.{start_within}
 use Rattle.why.specs.SentenceText.{answer_text}
 use Rattle.why.proofs.PrintedAnswer.{answer_small}
-use borrow.Author.Rules.{rules}
 use Rattle.why.proofs.tell.Goals as goal
 
 pub slice_bounds-out-end : goal.slice_bounds-out-end

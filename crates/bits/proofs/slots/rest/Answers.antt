@@ -1,4 +1,3 @@
-use borrow.Author.Rules.{rules}
 use Rattle.bits.proofs.WordLaws.{rest_of}
 use Rattle.bits.proofs.slots.rest.Goals as goal
 

@@ -1,4 +1,3 @@
-use borrow.Author.Rules.{rules}
 use Rattle.bits.proofs.BitLaws.{or_put}
 use Rattle.bits.proofs.slots.with_slot.Goals as goal
 

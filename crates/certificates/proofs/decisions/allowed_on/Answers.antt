@@ -1,14 +1,9 @@
-use Prim.Native.Nat.{ℕ}
-use mathlib.Core.{Bool.{Bool, not, ◌&&◌, ◌||◌}, Path.{◌≡◌, sym, ap, ap₂, ◌∙◌}}
+use mathlib.Core.{Bool.{not, ◌&&◌, ◌||◌}, Path.{sym, ap, ap₂, ◌∙◌}}
 use native.Mathlib.Omega.{arith}
-use lib.ListN.{drop}
-use Rattle.records.specs.Phone.{decode}
-use Rattle.rules.specs.{Words.first, Actors.{may_act, acts_for}, Forms.with_kind, Codes.{has_id, certificate_named}}
+use Rattle.rules.specs.{Actors.{may_act, acts_for}, Forms.with_kind, Codes.{has_id}}
 use Rattle.lookup.proofs.FoundSlot.{at_first, at_within}
-use Rattle.handling.specs.Plans.{allowed_rows}
-use Rattle.handling.proofs.{CodeRows.{Gives, none, here, next, gives}, PlanLaws.{plan_refused, plan_on}}
+use Rattle.handling.proofs.{CodeRows.{none, here, next, gives}, PlanLaws.{plan_refused, plan_on}}
 use Rattle.handling.proofs.Named.{certificate_here, certificate_missing, certificate_found}
-use borrow.Author.Rules.{rules}
 use Rattle.certificates.proofs.decisions.allowed_on.Goals as goal
 
 pub certificate-c-requires-clause-i_in_bounds : goal.certificate-c-requires-clause-i_in_bounds

@@ -2,7 +2,6 @@ use mathlib.Core.Bool.{false}
 use native.Mathlib.Omega.{arith}
 use Rattle.handling.proofs.Decided.{unformed, formed}
 use Rattle.certificates.proofs.{NamedCertificate.{allowed_within, then_present}, CertificateCodes.delete_told}
-use borrow.Author.Rules.{rules}
 use mathlib.Core.Bool.{not}
 use mathlib.Core.Path.{ap}
 use Rattle.certificates.proofs.decisions.delete_certificate.Goals as goal

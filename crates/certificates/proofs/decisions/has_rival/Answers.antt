@@ -1,10 +1,8 @@
-use Prim.Native.Nat.{◌≤◌, ◌-◌}
-use mathlib.Core.Path.{◌≡◌, refl, sym, ◌∙◌}
+use mathlib.Core.Path.{refl, sym, ◌∙◌}
 use native.Mathlib.Omega.{arith}
 use borrow.Author.Rules.{rules}
-use lib.ListN.{length, drop}
-use Rattle.records.specs.Phone.{decode, no_certificate}
-use Rattle.rules.specs.{Words.any, Parts.near_rival}
+use Rattle.records.specs.Phone.{no_certificate}
+use Rattle.rules.specs.{Parts.near_rival}
 use Rattle.laws.proofs.Loops.{any_stops, any_goes_on, any_fails}
 use Rattle.certificates.proofs.decisions.has_rival.Goals as goal
 

@@ -1,5 +1,4 @@
-use mathlib.Core.{Bool.{Bool, cond}, Path.{◌≡◌, sym, ap, ◌∙◌}}
-use borrow.{Author.Rules.rules, Author.Tests.{not-true, not-false}}
+use mathlib.Core.{Bool.{cond}, Path.{sym, ap, ◌∙◌}}
 use Rattle.records.specs.Phone.{decode}
 use Rattle.rules.specs.Chains.{present}
 use Rattle.handling.specs.declared.Plan.{Plan}

@@ -1,14 +1,10 @@
-use Prim.Native.Nat.{ℕ}
-use mathlib.Core.{Bool.cond, Path.{◌≡◌, sym, ap, ◌∙◌}}
+use mathlib.Core.{Bool.cond, Path.{sym, ap, ◌∙◌}}
 use native.Mathlib.Omega.{arith}
-use lib.ListN.{drop}
-use Rattle.records.specs.Phone.{decode}
-use Rattle.rules.specs.{Forms.{with_kind, new_certificate}, Codes.{certificate_known, code_of}}
+use Rattle.rules.specs.{Forms.{new_certificate}, Codes.{certificate_known}}
 use Rattle.lookup.specs.declared.CertificateRoom.TheVariants.{Taken, Elsewhere, Full, Free}
-use Rattle.handling.proofs.{CodeRows.{Gives, here, next, rest, says}, PlanLaws.{plan_refused, plan_on}}
+use Rattle.handling.proofs.{CodeRows.{here, next, rest, says}, PlanLaws.{plan_refused, plan_on}}
 use Rattle.terms.proofs.FormTests.{domain_below}
-use Rattle.certificates.proofs.{CertificateCodes.{install_rows, install_told}, CertificateRooms.{certificate_code, certificate_told, certificate_filled}}
-use borrow.Author.Rules.{rules}
+use Rattle.certificates.proofs.{CertificateCodes.{install_told}, CertificateRooms.{certificate_code, certificate_told, certificate_filled}}
 use mathlib.Core.Bool.{not}
 use Rattle.certificates.proofs.decisions.install_certificate.Goals as goal
 

@@ -1,6 +1,5 @@
 use mathlib.Core.{Bool.{Bool, true, false, ◌&&◌}, Path.{◌≡◌, sym, ap, ap₂, ◌∙◌}}
-use borrow.{Author.Tests.{eq-eqb, ne_eqb, not-true, not-false}, Author.Rules.rules}
-use Rattle.rules.specs.Chains.{valid_root}
+use borrow.{Author.Tests.{eq-eqb, ne_eqb}}
 use Rattle.certificates.proofs.decisions.is_rival.Goals as goal
 
 -- v: x is a valid root; d: of the same domain; a: another one; m: within reach

@@ -1,10 +1,9 @@
-use Prim.Native.Nat.{ℕ, ◌+◌, ◌<◌, ◌≤◌, ◌-◌}
-use mathlib.Core.{Bool.{Bool, cond, not}, List.List, Path.{◌≡◌, refl, sym, ap, ◌∙◌}}
+use Prim.Native.Nat.{◌<◌}
+use mathlib.Core.{Bool.{cond, not}, Path.{refl, sym, ap, ◌∙◌}}
 use native.Mathlib.Omega.{arith}
 use borrow.Author.Rules.{rules}
-use lib.ListN.{length, get_or, drop}
 use Rattle.records.specs.Phone.{decode}
-use Rattle.rules.specs.{Words.any, ImageRules.third_party_root, Forms.listed, Codes.{has_id, certificate_named, certificate_known}}
+use Rattle.rules.specs.{Words.any, ImageRules.third_party_root, Forms.listed, Codes.{has_id}}
 use Rattle.laws.proofs.Loops.{any_stops, any_goes_on, any_fails}
 use Rattle.lookup.proofs.FoundSlot.{at_first, at_within}
 use Rattle.handling.proofs.Named.{certificate_here, certificate_missing, certificate_found}
@@ -38,16 +37,16 @@ loop-i-preserved-then-is_third_party_root c =
       search rules,
       search rules,
       (let v = c.loop-i in
-    let a = c.args in
-    let found = certificate_found (decode a.s.now) _ c.certificate_slot-found.ensures c.in-At.is in
-    any_goes_on 0 (listed a.e) v.i (unknown a.s.now) _ v.invariant.2 (let k = listed_length c.args.e c.requires.fourth_bound in
-    omega arith) (let h : c.loop-i.i < c.args.e.fourth = omega arith in
-    listed_at c.args.e h c.listed_id.ensures) (ap not found)),
+          let a = c.args in
+          let found = certificate_found (decode a.s.now) _ c.certificate_slot-found.ensures c.in-At.is in
+          any_goes_on 0 (listed a.e) v.i (unknown a.s.now) _ v.invariant.2 (let k = listed_length c.args.e c.requires.fourth_bound in
+          omega arith) (let h : c.loop-i.i < c.args.e.fourth = omega arith in
+          listed_at c.args.e h c.listed_id.ensures) (ap not found)),
       told_later (listed a.e) v.i (other a.s.now) 12 v.told v.invariant.3 (let k = listed_length c.args.e c.requires.fourth_bound in
-    omega arith) (let h : c.loop-i.i < c.args.e.fourth = omega arith in
-    listed_at c.args.e h c.listed_id.ensures) (let place = at_first (has_id _) _ c.certificate_slot-found.ensures c.in-At.is in
-    let here = certificate_here (decode c.args.s.now) _ place c.certificate.ensures in
-    ap not (ap (λ x. third_party_root x) (sym here) ∙ sym c.is_third_party_root.ensures ∙ c.if-is_third_party_root.true)),
+          omega arith) (let h : c.loop-i.i < c.args.e.fourth = omega arith in
+          listed_at c.args.e h c.listed_id.ensures) (let place = at_first (has_id _) _ c.certificate_slot-found.ensures c.in-At.is in
+          let here = certificate_here (decode c.args.s.now) _ place c.certificate.ensures in
+          ap not (ap (λ x. third_party_root x) (sym here) ∙ sym c.is_third_party_root.ensures ∙ c.if-is_third_party_root.true)),
     )
 
 pub loop-i-preserved : goal.loop-i-preserved
@@ -57,16 +56,16 @@ loop-i-preserved c =
       search rules,
       search rules,
       (let v = c.loop-i in
-    let a = c.args in
-    let found = certificate_found (decode a.s.now) _ c.certificate_slot-found.ensures c.in-At.is in
-    any_goes_on 0 (listed a.e) v.i (unknown a.s.now) _ v.invariant.2 (let k = listed_length c.args.e c.requires.fourth_bound in
-    omega arith) (let h : c.loop-i.i < c.args.e.fourth = omega arith in
-    listed_at c.args.e h c.listed_id.ensures) (ap not found)),
+          let a = c.args in
+          let found = certificate_found (decode a.s.now) _ c.certificate_slot-found.ensures c.in-At.is in
+          any_goes_on 0 (listed a.e) v.i (unknown a.s.now) _ v.invariant.2 (let k = listed_length c.args.e c.requires.fourth_bound in
+          omega arith) (let h : c.loop-i.i < c.args.e.fourth = omega arith in
+          listed_at c.args.e h c.listed_id.ensures) (ap not found)),
       told_here (listed a.e) v.i (other a.s.now) 12 v.told v.invariant.3 (let k = listed_length c.args.e c.requires.fourth_bound in
-    omega arith) (let h : c.loop-i.i < c.args.e.fourth = omega arith in
-    listed_at c.args.e h c.listed_id.ensures) (let place = at_first (has_id _) _ c.certificate_slot-found.ensures c.in-At.is in
-    let here = certificate_here (decode c.args.s.now) _ place c.certificate.ensures in
-    ap not (ap (λ x. third_party_root x) (sym here) ∙ sym c.is_third_party_root.ensures ∙ c.if-is_third_party_root.false)),
+          omega arith) (let h : c.loop-i.i < c.args.e.fourth = omega arith in
+          listed_at c.args.e h c.listed_id.ensures) (let place = at_first (has_id _) _ c.certificate_slot-found.ensures c.in-At.is in
+          let here = certificate_here (decode c.args.s.now) _ place c.certificate.ensures in
+          ap not (ap (λ x. third_party_root x) (sym here) ∙ sym c.is_third_party_root.ensures ∙ c.if-is_third_party_root.false)),
     )
 
 pub returns : goal.returns

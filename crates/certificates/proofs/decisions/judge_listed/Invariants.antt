@@ -1,14 +1,8 @@
-use Prim.Native.Nat.{ℕ, ◌+◌, ◌<◌, ◌≤◌, ◌-◌}
-use mathlib.Core.{Bool.{Bool, cond, not}, List.List, Path.{◌≡◌, refl, sym, ap, ◌∙◌}}
-use native.Mathlib.Omega.{arith}
-use borrow.Author.Rules.{rules}
-use lib.ListN.{length, get_or, drop}
+use Prim.Native.Nat.{ℕ, ◌≤◌, ◌-◌}
+use mathlib.Core.{Bool.{Bool, cond, not}, List.List, Path.{◌≡◌}}
+use lib.ListN.{drop}
 use Rattle.records.specs.Phone.{decode}
-use Rattle.rules.specs.{Words.any, ImageRules.third_party_root, Forms.listed, Codes.{has_id, certificate_named, certificate_known}}
-use Rattle.laws.proofs.Loops.{any_stops, any_goes_on, any_fails}
-use Rattle.lookup.proofs.FoundSlot.{at_first, at_within}
-use Rattle.handling.proofs.Named.{certificate_here, certificate_missing, certificate_found}
-use Rattle.terms.proofs.Listed.{listed_length, listed_at, told_here, told_later, told_all}
+use Rattle.rules.specs.{Words.any, ImageRules.third_party_root, Forms.listed, Codes.{certificate_named, certificate_known}}
 use Rattle.certificates.proofs.decisions.judge_listed.Given as goal
 
 abbrev pub unknown : List ℕ → ℕ → Bool

@@ -1,8 +1,6 @@
-use Prim.Native.Nat.{ℕ}
-use mathlib.Core.{Bool.not, List.{List, [], ◌∷◌, ◌++◌}, Path.{◌≡◌, ap, ap₂, ◌∙◌}}
-use borrow.Author.Rules.{rules}
-use Rattle.records.specs.{Phone.{decode, certificate_at}, declared.Certificate.Certificate}
-use Rattle.rules.specs.{Words.{Check, ◌⇒◌, first}, Chains.in_date}
+use mathlib.Core.{Bool.not, List.{[], ◌∷◌}, Path.{ap, ap₂, ◌∙◌}}
+use Rattle.records.specs.{Phone.{decode, certificate_at}}
+use Rattle.rules.specs.{Words.{◌⇒◌, first}, Chains.in_date}
 use Rattle.handling.proofs.{CodeRows.{none, here, next, gives, says}, PlanLaws.{stands, decides}}
 use Rattle.certificates.specs.MarkingRows.{validity_rows}
 use Rattle.certificates.proofs.NamedCertificate.{read_fits, read_there}

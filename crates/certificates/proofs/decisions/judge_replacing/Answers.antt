@@ -1,11 +1,9 @@
-use Prim.Native.Nat.{ℕ}
-use mathlib.Core.{Bool.{Bool, not}, List.{List, [], ◌∷◌, ◌++◌}, Path.{◌≡◌, sym, ap, ◌∙◌}}
-use lib.{Dec.ltb, ListN.drop}
-use Rattle.records.specs.{Phone.{decode, certificate_at}, declared.Certificate.Certificate}
-use Rattle.rules.specs.{Words.{any, Check, ◌⇒◌, first}, Codes.{in_another, may_replace}}
-use Rattle.handling.proofs.{CodeRows.{Gives, none, here, next, rest, gives, says, says_below, says_not_below}, PlanLaws.{stands, decides}}
-use Rattle.certificates.specs.MarkingRows.{validity_rows, replacing_rows}
-use borrow.Author.Rules.{rules}
+use mathlib.Core.{Bool.{not}, List.{[], ◌∷◌}, Path.{sym, ap, ◌∙◌}}
+use lib.{Dec.ltb}
+use Rattle.records.specs.{Phone.{decode, certificate_at}}
+use Rattle.rules.specs.{Words.{any, ◌⇒◌, first}, Codes.{in_another, may_replace}}
+use Rattle.handling.proofs.{CodeRows.{none, here, next, rest, gives, says, says_below, says_not_below}, PlanLaws.{stands, decides}}
+use Rattle.certificates.specs.MarkingRows.{validity_rows}
 use Rattle.certificates.proofs.NamedCertificate.{read_fits, read_there}
 use Rattle.certificates.proofs.decisions.judge_replacing.Goals as goal
 

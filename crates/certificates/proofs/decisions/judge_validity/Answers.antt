@@ -1,12 +1,10 @@
-use Prim.Native.Nat.{ℕ}
-use mathlib.Core.{Bool.{not, ◌&&◌}, Path.{◌≡◌, sym, ap, ap₂, ◌∙◌}}
-use borrow.{Author.Rules.rules, Author.Tests.{eq-eqb, ne_eqb}}
-use lib.{Dec.eqb, ListN.drop}
+use mathlib.Core.{Bool.{not, ◌&&◌}, Path.{sym, ap, ap₂, ◌∙◌}}
+use borrow.{Author.Tests.{eq-eqb, ne_eqb}}
+use lib.{Dec.eqb}
 use Rattle.records.specs.Phone.{decode}
-use Rattle.rules.specs.{Words.{any, first}, Codes.rival, Parts.near_rival}
+use Rattle.rules.specs.{Words.{any}, Parts.near_rival}
 use Rattle.laws.proofs.Rivals.{near_rivals}
-use Rattle.handling.proofs.CodeRows.{Gives, none, here, next, gives}
-use Rattle.certificates.specs.MarkingRows.{validity_rows}
+use Rattle.handling.proofs.CodeRows.{none, here, next, gives}
 use Rattle.certificates.proofs.decisions.judge_validity.Goals as goal
 
 pub returns-then-other : goal.returns-then-other

@@ -1,13 +1,10 @@
-use Prim.Native.Nat.{ℕ}
-use mathlib.Core.{Bool.{false, not}, List.List, Path.{◌≡◌, ap, ◌∙◌}}
+use mathlib.Core.{Bool.{false, not}, Path.{ap, ◌∙◌}}
 use native.Mathlib.Omega.{arith}
-use borrow.{Author.Tests.{eq-eqb, ne_eqb}, Author.Rules.rules}
-use Rattle.records.specs.{Phone.decode, declared.Certificate.Certificate}
-use Rattle.rules.specs.{Words.{Check, first}, Codes.certificate_named}
+use borrow.{Author.Tests.{eq-eqb, ne_eqb}}
+use Rattle.rules.specs.{Words.{first}}
 use Rattle.handling.proofs.{Decided.unformed, CodeRows.{none, here, next, gives}}
-use Rattle.certificates.proofs.NamedCertificate.{Onward, allowed_within, then_present, row_within, row_named, row_refuses, rest_refuses, none_refuses}
+use Rattle.certificates.proofs.NamedCertificate.{allowed_within, then_present, row_within, row_named, row_refuses, rest_refuses, none_refuses}
 use Rattle.certificates.proofs.CertificateCodes.{root_row, mark_invalid_told}
-use Rattle.certificates.specs.Decisions.{certificate_plan}
 use Rattle.certificates.proofs.decisions.mark_invalid.Goals as goal
 
 pub returns-then-not-owned_form : goal.returns-then-not-owned_form
@@ -38,12 +35,12 @@ returns-then-certificate-ne-ROOT c =
 
 pub returns-in-Refused : goal.returns-in-Refused
 returns-in-Refused c = row_refuses (record {
-      told = mark_invalid_told _ _ (omega arith);
-      form = c.owned_form.result;
-      answers = c.owned_form.ensures _;
-      right = (ap not c.if-not-owned_form.false);
-      rows = (then_present 8 false _ c.args.e c.allowed_on.ensures c.if_present.ensures);
-    }) c.in-Refused.is
+  told = mark_invalid_told _ _ (omega arith);
+  form = c.owned_form.result;
+  answers = c.owned_form.ensures _;
+  right = (ap not c.if-not-owned_form.false);
+  rows = (then_present 8 false _ c.args.e c.allowed_on.ensures c.if_present.ensures);
+}) c.in-Refused.is
 
 pub returns-else-certificate-ne-ROOT : goal.returns-else-certificate-ne-ROOT
 returns-else-certificate-ne-ROOT c =

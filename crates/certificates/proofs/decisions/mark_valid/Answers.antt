@@ -1,13 +1,11 @@
-use Prim.Native.Nat.{ℕ}
-use mathlib.Core.{Bool.false, List.List, Path.{◌≡◌, refl, sym, ap, ◌∙◌}}
+use mathlib.Core.{Bool.false, Path.{refl, sym, ap, ◌∙◌}}
 use native.Mathlib.Omega.{arith}
-use Rattle.records.specs.{Phone.{decode, certificate_at}, declared.Certificate.Certificate}
-use Rattle.rules.specs.{Words.{Check, first}, Codes.certificate_named}
+use Rattle.records.specs.{Phone.{decode}}
+use Rattle.rules.specs.{Words.{first}}
 use Rattle.handling.proofs.Decided.{unformed}
-use Rattle.certificates.proofs.NamedCertificate.{Onward, allowed_within, then_present, row_present, row_named, row_refuses, rest_refuses, none_refuses}
+use Rattle.certificates.proofs.NamedCertificate.{allowed_within, then_present, row_present, row_named, row_refuses, rest_refuses, none_refuses}
 use Rattle.certificates.proofs.CertificateCodes.{mark_valid_told}
-use Rattle.certificates.specs.{Decisions.certificate_plan, MarkingRows.marking_rows}
-use borrow.Author.Rules.{rules}
+use Rattle.certificates.specs.{MarkingRows.marking_rows}
 use mathlib.Core.Bool.{not}
 use Rattle.certificates.proofs.decisions.mark_valid.Goals as goal
 
@@ -39,12 +37,12 @@ returns-then-told-ne0 c =
 
 pub returns-in-Refused : goal.returns-in-Refused
 returns-in-Refused c = row_refuses (record {
-      told = mark_valid_told _ _ (omega arith);
-      form = c.owned_form.result;
-      answers = c.owned_form.ensures _;
-      right = (ap not c.if-not-owned_form.false);
-      rows = (then_present 7 false _ c.args.e c.allowed_on.ensures c.if_present.ensures);
-    }) c.in-Refused.is
+  told = mark_valid_told _ _ (omega arith);
+  form = c.owned_form.result;
+  answers = c.owned_form.ensures _;
+  right = (ap not c.if-not-owned_form.false);
+  rows = (then_present 7 false _ c.args.e c.allowed_on.ensures c.if_present.ensures);
+}) c.in-Refused.is
 
 pub returns-else-told-ne0 : goal.returns-else-told-ne0
 returns-else-told-ne0 c =

@@ -1,6 +1,5 @@
 use Rattle.records.specs.Phone.{decode}
 use Rattle.certificates.proofs.OtherOwners.{other_card, not_on_card}
-use borrow.Author.Rules.{rules}
 use Rattle.certificates.proofs.decisions.of_other_card.Goals as goal
 
 pub returns-then-on_a_card : goal.returns-then-on_a_card

@@ -1,6 +1,5 @@
 use Rattle.records.specs.Phone.{decode}
 use Rattle.certificates.proofs.OtherOwners.{other_operator, no_operator}
-use borrow.Author.Rules.{rules}
 use Rattle.certificates.proofs.decisions.of_other_operator.Goals as goal
 
 pub returns-then-is_phone_operator_root-card : goal.returns-then-is_phone_operator_root-card

@@ -1,14 +1,13 @@
-use mathlib.Core.{Bool.not, Path.{◌≡◌, refl, ap, ◌∙◌}}
+use mathlib.Core.{Bool.not, Path.{refl, ap, ◌∙◌}}
 use native.Mathlib.Omega.{arith}
 use Rattle.records.specs.Phone.{decode}
-use Rattle.rules.specs.{Words.first_place, Codes.{has_id, certificate_named}}
+use Rattle.rules.specs.{Words.first_place, Codes.{has_id}}
 use Rattle.handling.specs.Plans.{plan}
 use Rattle.handling.proofs.{Decided.{unformed, formed}, CodeRows.{here, next, rest, gives}, PlanLaws.plan_refused}
 use Rattle.handling.proofs.Named.{certificate_here, certificate_missing, certificate_found}
 use Rattle.lookup.proofs.FoundSlot.{at_first, at_within}
 use Rattle.certificates.specs.MarkingRows.{replace_plan}
 use Rattle.certificates.proofs.CertificateCodes.{replace_told}
-use borrow.Author.Rules.{rules}
 use Rattle.certificates.proofs.decisions.replace.Goals as goal
 
 pub returns-then-not-replace_form : goal.returns-then-not-replace_form

@@ -1,13 +1,11 @@
-use Prim.Native.Nat.{ℕ}
-use mathlib.Core.{Bool.Bool, List.List, Path.{◌≡◌, refl, sym, ap, ◌∙◌}}
+use mathlib.Core.{Path.{refl, sym, ap, ◌∙◌}}
 use lib.Dec.{eqb}
-use Rattle.records.specs.{Phone.{Phone, decode, certificate_at}, declared.Certificate.Certificate}
-use Rattle.rules.specs.{Words.{Check, first, first_place}, Codes.{has_id, certificate_named}}
+use Rattle.records.specs.{Phone.{decode}}
+use Rattle.rules.specs.{Words.{first, first_place}, Codes.{has_id}}
 use Rattle.handling.specs.Plans.{certificate_rows}
 use Rattle.handling.proofs.Decided.{refused_first, refused_next, on_next}
-use Rattle.certificates.specs.{Decisions.certificate_plan, MarkingRows.replacing_rows}
+use Rattle.certificates.specs.{MarkingRows.replacing_rows}
 use Rattle.certificates.proofs.NamedCertificate.{allowed_within, then_present, row_present, row_named}
-use borrow.Author.Rules.{rules}
 use Rattle.certificates.proofs.decisions.replace_by.Goals as goal
 
 pub if_present-requires-clause-framed : goal.if_present-requires-clause-framed

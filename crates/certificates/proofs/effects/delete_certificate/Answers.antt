@@ -1,5 +1,4 @@
 use mathlib.Core.Path.{refl}
-use borrow.Author.Rules.{rules}
 use Rattle.records.specs.Phone.{no_certificate}
 use Rattle.rules.specs.Effects.{delete_certificate}
 use Rattle.laws.proofs.Tables.{certificates}

@@ -1,5 +1,5 @@
 use mathlib.Core.Path.{sym, ◌∙◌}
-use borrow.{Author.Tests.{eq-eqb, ne_eqb}, Author.Rules.rules}
+use borrow.{Author.Tests.{eq-eqb, ne_eqb}}
 use Rattle.rules.specs.Effects.{enabled_by}
 use Rattle.certificates.proofs.effects.enabled_by.Goals as goal
 

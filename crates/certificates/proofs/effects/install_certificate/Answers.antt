@@ -1,4 +1,3 @@
-use borrow.Author.Rules.{rules}
 use Rattle.laws.proofs.Tables.{certificates}
 use Rattle.handling.proofs.SlotWrites.{write_is_fill}
 use Rattle.certificates.proofs.effects.install_certificate.Goals as goal

@@ -1,9 +1,8 @@
-use Prim.Native.Nat.{◌≤◌, ◌-◌}
-use mathlib.Core.Path.{◌≡◌, refl, sym, ◌∙◌}
+use mathlib.Core.Path.{refl, sym, ◌∙◌}
 use native.Mathlib.Omega.{arith}
-use lib.{ListN.{length, drop}, Seq.{length-take-le, get_or-take}, Dec.eqb}
+use lib.{Seq.{length-take-le, get_or-take}, Dec.eqb}
 use borrow.{Author.Rules.rules, Author.Tests.{eq-eqb, ne_eqb}}
-use Rattle.rules.specs.{Words.any, Forms.{eight, listed}}
+use Rattle.rules.specs.{Forms.{eight, listed}}
 use Rattle.laws.proofs.Loops.{any_stops, any_goes_on, any_fails}
 use Rattle.certificates.proofs.effects.is_listed.Goals as goal
 

@@ -1,10 +1,7 @@
 use Prim.Native.Nat.{◌≤◌, ◌-◌}
-use mathlib.Core.Path.{◌≡◌, refl, sym, ◌∙◌}
-use native.Mathlib.Omega.{arith}
-use lib.{ListN.{length, drop}, Seq.{length-take-le, get_or-take}, Dec.eqb}
-use borrow.{Author.Rules.rules, Author.Tests.{eq-eqb, ne_eqb}}
-use Rattle.rules.specs.{Words.any, Forms.{eight, listed}}
-use Rattle.laws.proofs.Loops.{any_stops, any_goes_on, any_fails}
+use mathlib.Core.Path.{◌≡◌}
+use lib.{ListN.{length, drop}, Dec.eqb}
+use Rattle.rules.specs.{Words.any, Forms.{listed}}
 use Rattle.certificates.proofs.effects.is_listed.Given as goal
 
 abbrev pub invariant-loop-i : goal.invariant-loop-i

@@ -1,5 +1,4 @@
 use mathlib.Core.Path.{refl}
-use borrow.Author.Rules.{rules}
 use Rattle.records.specs.Phone.{marked}
 use Rattle.rules.specs.Effects.{mark_invalid}
 use Rattle.laws.proofs.Tables.{certificates}

@@ -1,7 +1,6 @@
 use mathlib.Core.{Bool.true, Path.{sym, ◌∙◌}}
 use Rattle.handling.specs.Retiring.{retire}
 use Rattle.certificates.proofs.Marking.{mapped_framed, marks_alone, marks_after_retiring}
-use borrow.Author.Rules.{rules}
 use Rattle.certificates.proofs.effects.mark_valid.Goals as goal
 
 pub set_mark-requires-clause-framed : goal.set_mark-requires-clause-framed

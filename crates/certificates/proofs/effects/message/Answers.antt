@@ -1,13 +1,11 @@
-use Prim.Native.Nat.{◌-◌}
-use mathlib.Core.{Bool.◌||◌, Path.{◌≡◌, refl, sym, ap, ◌∙◌}}
+use mathlib.Core.{Path.{refl, sym, ap, ◌∙◌}}
 use native.Mathlib.Omega.{arith}
-use lib.ListN.{drop}
-use borrow.{Author.Tests.{not-true, not-false}, Author.Rules.rules}
-use Rattle.records.specs.Phone.{decode, encode, no_certificate, with_mode, enabling}
-use Rattle.rules.specs.{Words.{any, at}, ImageRules.third_party_root, Effects.{enabled_by, message}}
+use borrow.{Author.Rules.rules}
+use Rattle.records.specs.Phone.{encode, no_certificate, with_mode}
+use Rattle.rules.specs.{Effects.{message}}
 use Rattle.chain.specs.Breaks.{disables}
 use Rattle.laws.proofs.Tables.{certificates}
-use Rattle.laws.proofs.SlotSweeps.{Sweeping, sweep_starts, sweep_goes_on, sweep_here, sweep_skips, sweep_said, gathers, gathers_none, gathered}
+use Rattle.laws.proofs.SlotSweeps.{sweep_starts, sweep_goes_on, sweep_here, sweep_skips, sweep_said, gathers, gathers_none, gathered}
 use Rattle.certificates.proofs.Enables.{enabled_written, enabled_skipped, disables_told, disables_none}
 use Rattle.certificates.proofs.effects.message.Goals as goal
 

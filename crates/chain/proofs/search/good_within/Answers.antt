@@ -1,5 +1,4 @@
 use Rattle.chain.proofs.Rounds.{within_lt, round_none, round_one, rounds_all}
-use borrow.Author.Rules.{rules}
 use Rattle.chain.proofs.search.good_within.Goals as goal
 
 pub returns-then-n-eq0 : goal.returns-then-n-eq0

@@ -1,11 +1,8 @@
-use mathlib.Core.Path.{◌≡◌, refl}
+use mathlib.Core.Path.{refl}
 use native.Mathlib.Omega.{arith}
-use borrow.{Author.Rules.rules, Author.Tests.{eq-eqb, ne_eqb}}
-use lib.Dec.{eqb}
-use Rattle.records.specs.Phone.{decode}
-use Rattle.bits.specs.SlotWord.{any_of}
+use borrow.{Author.Tests.{eq-eqb, ne_eqb}}
 use Rattle.bits.proofs.WordLaws.{any_left_none}
-use Rattle.chain.proofs.WordsAny.{Going, at_slot, falls_to, goes_to, some_stops, some_goes_on}
+use Rattle.chain.proofs.WordsAny.{at_slot, falls_to, goes_to, some_stops, some_goes_on}
 use Rattle.chain.proofs.search.holds_key.Goals as goal
 
 pub loop-left-init : goal.loop-left-init

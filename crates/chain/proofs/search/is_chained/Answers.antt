@@ -1,4 +1,3 @@
-use borrow.Author.Rules.{rules}
 use Rattle.chain.proofs.Rounds.{within_lt, chained_other, chained_by}
 use Rattle.chain.proofs.search.is_chained.Goals as goal
 

@@ -1,5 +1,4 @@
 use Rattle.rules.specs.Chains.{link}
-use borrow.Author.Rules.{rules}
 use Rattle.chain.proofs.search.is_link.Goals as goal
 
 pub returns : goal.returns

@@ -1,7 +1,6 @@
 use mathlib.Core.Path.{◌∙◌}
 use native.Mathlib.Omega.{arith}
 use Rattle.chain.proofs.Levels.{level_fits, least_none, climb_found, climb_small, climb_on}
-use borrow.Author.Rules.{rules}
 use Rattle.chain.proofs.search.links_within.Goals as goal
 
 pub returns-then-n-eq0 : goal.returns-then-n-eq0

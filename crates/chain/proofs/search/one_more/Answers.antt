@@ -1,4 +1,4 @@
-use borrow.{Author.Rules.rules, Author.Tests.{eq-eqb, ne_eqb}}
+use borrow.{Author.Tests.{eq-eqb, ne_eqb}}
 use native.Mathlib.Numerals.{add-one}
 use Rattle.chain.proofs.search.one_more.Goals as goal
 

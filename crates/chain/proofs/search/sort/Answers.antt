@@ -1,10 +1,6 @@
-use Prim.Native.Nat.{◌-◌, ◌≤◌}
-use mathlib.Core.Path.{◌≡◌}
 use native.Mathlib.Omega.{arith}
-use borrow.{Author.Rules.rules, Author.Tests.{not-true, not-false}}
-use lib.ListN.{length}
-use Rattle.records.specs.Phone.{decode}
-use Rattle.chain.proofs.Sorting.{Sorting, sort_begin, sort_end, sort_other, sort_root, sort_unlinked, sort_link}
+use borrow.{Author.Rules.rules}
+use Rattle.chain.proofs.Sorting.{sort_begin, sort_end, sort_other, sort_root, sort_unlinked, sort_link}
 use Rattle.chain.proofs.search.sort.Goals as goal
 
 pub loop-i-init : goal.loop-i-init

@@ -1,10 +1,6 @@
-use Prim.Native.Nat.{◌-◌, ◌≤◌}
-use mathlib.Core.Path.{◌≡◌}
 use native.Mathlib.Omega.{arith}
-use borrow.{Author.Rules.rules, Author.Tests.{not-true, not-false}}
-use lib.ListN.{length}
-use Rattle.records.specs.Phone.{decode}
-use Rattle.chain.proofs.Levels.{Sweeping, sweep_begin, sweep_end, sweep_other, sweep_root, sweep_unlinked, sweep_link}
+use borrow.{Author.Rules.rules}
+use Rattle.chain.proofs.Levels.{sweep_begin, sweep_end, sweep_other, sweep_root, sweep_unlinked, sweep_link}
 use Rattle.chain.proofs.search.sweep.Goals as goal
 
 pub loop-i-init : goal.loop-i-init

@@ -1,10 +1,8 @@
 use Prim.Native.Nat.{◌-◌, ◌≤◌}
 use mathlib.Core.Path.{◌≡◌}
-use native.Mathlib.Omega.{arith}
-use borrow.{Author.Rules.rules, Author.Tests.{not-true, not-false}}
 use lib.ListN.{length}
 use Rattle.records.specs.Phone.{decode}
-use Rattle.chain.proofs.Levels.{Sweeping, sweep_begin, sweep_end, sweep_other, sweep_root, sweep_unlinked, sweep_link}
+use Rattle.chain.proofs.Levels.{Sweeping}
 use Rattle.chain.proofs.search.sweep.Given as goal
 
 abbrev pub invariant-loop-i : goal.invariant-loop-i

@@ -1,5 +1,4 @@
 use Rattle.rules.specs.Chains.{trusted_root}
-use borrow.Author.Rules.{rules}
 use Rattle.chain.proofs.search.trusted_root.Goals as goal
 
 pub returns : goal.returns

@@ -1,8 +1,6 @@
 use mathlib.Core.Path.{sym, ◌∙◌}
 use native.Mathlib.Omega.{arith}
-use borrow.Author.Rules.{rules}
-use Rattle.records.specs.Phone.{decode}
-use Rattle.chain.proofs.{WordsAny.{at_slot, falls_to}, Levels.{Raising, up_begin, up_fits, up_end, up_known, up_found, up_more}}
+use Rattle.chain.proofs.{WordsAny.{at_slot, falls_to}, Levels.{up_begin, up_fits, up_end, up_known, up_found, up_more}}
 use Rattle.chain.proofs.search.up.Goals as goal
 
 pub loop-left-init : goal.loop-left-init

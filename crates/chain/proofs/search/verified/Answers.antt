@@ -1,12 +1,8 @@
-use Prim.Native.Nat.{◌+◌}
-use mathlib.Core.Path.{◌≡◌, sym, ◌∙◌}
+use mathlib.Core.Path.{sym, ◌∙◌}
 use native.{Mathlib.Nat.zero-add, Mathlib.Omega.arith}
-use borrow.{Author.Rules.rules, Author.Tests.{not-true, not-false}}
-use Rattle.records.specs.Phone.{decode}
-use Rattle.bits.specs.SlotWord.{keep}
 use Rattle.bits.proofs.WordLaws.{falls, keep_left_none}
 use Rattle.chain.specs.SlotWords.{verified_by}
-use Rattle.chain.proofs.{WordsAny.{Going, at_slot, falls_to, goes_to, found_skips, found_takes}, Rounds.{verified_nothing, found_fits}}
+use Rattle.chain.proofs.{WordsAny.{at_slot, falls_to, goes_to, found_skips, found_takes}, Rounds.{verified_nothing, found_fits}}
 use Rattle.chain.proofs.search.verified.Goals as goal
 
 pub returns-then-fresh-eq0 : goal.returns-then-fresh-eq0

@@ -1,12 +1,9 @@
 use Prim.Native.Nat.{◌+◌}
-use mathlib.Core.Path.{◌≡◌, sym, ◌∙◌}
-use native.{Mathlib.Nat.zero-add, Mathlib.Omega.arith}
-use borrow.{Author.Rules.rules, Author.Tests.{not-true, not-false}}
+use mathlib.Core.Path.{◌≡◌}
 use Rattle.records.specs.Phone.{decode}
 use Rattle.bits.specs.SlotWord.{keep}
-use Rattle.bits.proofs.WordLaws.{falls, keep_left_none}
 use Rattle.chain.specs.SlotWords.{verified_by}
-use Rattle.chain.proofs.{WordsAny.{Going, at_slot, falls_to, goes_to, found_skips, found_takes}, Rounds.{verified_nothing, found_fits}}
+use Rattle.chain.proofs.{WordsAny.{Going}}
 use Rattle.chain.proofs.search.verified.Given as goal
 
 abbrev pub invariant-loop-next : goal.invariant-loop-next

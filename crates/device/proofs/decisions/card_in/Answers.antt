@@ -1,10 +1,9 @@
-use mathlib.Core.{Bool.{Bool, not, ◌&&◌}, Path.{◌≡◌, ap}}
+use mathlib.Core.{Bool.{not, ◌&&◌}, Path.{◌≡◌, ap}}
 use lib.Dec.{eqb}
 use Rattle.records.specs.Phone.{decode}
 use Rattle.rules.specs.Forms.{card_form}
 use Rattle.handling.proofs.CodeRows.{none, here, next, says}
 use Rattle.device.proofs.DeviceCodes.{card_in_told, says_not_zero, says_not_non_zero}
-use borrow.Author.Rules.{rules}
 use Rattle.device.proofs.decisions.card_in.Goals as goal
 
 pub returns-then-not-e-card_form : goal.returns-then-not-e-card_form

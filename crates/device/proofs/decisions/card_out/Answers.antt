@@ -1,10 +1,9 @@
-use mathlib.Core.{Bool.{Bool, ◌&&◌}, Path.{◌≡◌, ap}}
+use mathlib.Core.{Bool.{◌&&◌}, Path.{◌≡◌, ap}}
 use lib.Dec.{eqb}
 use Rattle.records.specs.Phone.{decode}
 use Rattle.rules.specs.Forms.{card_form}
 use Rattle.handling.proofs.CodeRows.{none, here, next, says}
 use Rattle.device.proofs.DeviceCodes.{card_out_told, says_zero, says_non_zero}
-use borrow.Author.Rules.{rules}
 use Rattle.device.proofs.decisions.card_out.Goals as goal
 
 pub returns-then-not-e-card_form : goal.returns-then-not-e-card_form

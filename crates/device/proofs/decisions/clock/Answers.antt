@@ -3,7 +3,6 @@ use Rattle.records.specs.Phone.{decode}
 use Rattle.rules.specs.Forms.{clock_form}
 use Rattle.handling.proofs.CodeRows.{none, here, next, says, says_below, says_not_below}
 use Rattle.device.proofs.DeviceCodes.{clock_told}
-use borrow.Author.Rules.{rules}
 use Rattle.device.proofs.decisions.clock.Goals as goal
 
 pub returns-then-not-clock_form : goal.returns-then-not-clock_form

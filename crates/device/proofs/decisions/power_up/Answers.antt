@@ -3,7 +3,6 @@ use Rattle.records.specs.Phone.{decode}
 use Rattle.rules.specs.Forms.{card_form}
 use Rattle.handling.proofs.CodeRows.{none, here, next, says}
 use Rattle.device.proofs.DeviceCodes.{power_up_told}
-use borrow.Author.Rules.{rules}
 use Rattle.device.proofs.decisions.power_up.Goals as goal
 
 pub returns-then-not-card_form : goal.returns-then-not-card_form

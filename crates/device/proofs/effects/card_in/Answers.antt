@@ -1,5 +1,4 @@
 use mathlib.Core.Path.{ap, ◌∙◌}
-use borrow.Author.Rules.{rules}
 use Rattle.records.specs.Phone.{decode, encode, with_card}
 use Rattle.rules.specs.Effects.{card_rule, card_in}
 use Rattle.laws.proofs.Tables.{says, framed_as, sized_with_card}

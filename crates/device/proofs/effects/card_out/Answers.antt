@@ -1,4 +1,3 @@
-use borrow.Author.Rules.{rules}
 use Rattle.rules.specs.Effects.{card_out}
 use Rattle.device.proofs.effects.card_out.Goals as goal
 

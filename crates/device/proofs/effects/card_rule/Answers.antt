@@ -1,5 +1,4 @@
 use mathlib.Core.{Path.{ap, ap₂, ◌∙◌}, List.map}
-use borrow.Author.Rules.{rules}
 use Rattle.records.specs.Phone.{decode, encode, with_certificates}
 use Rattle.rules.specs.{ImageRules.{has_valid_operator, operator_of}, Effects.{card_rule, retired}}
 use Rattle.handling.specs.Retiring.{outgoing, retire}

@@ -1,4 +1,4 @@
-use borrow.{Author.Tests.{eq-eqb, ne_eqb}, Author.Rules.rules}
+use borrow.{Author.Tests.{eq-eqb, ne_eqb}}
 use Rattle.rules.specs.Effects.{power_up}
 use Rattle.device.proofs.effects.power_up.Goals as goal
 

@@ -1,4 +1,3 @@
-use borrow.Author.Rules.{rules}
 use Rattle.rules.specs.Effects.{tick}
 use Rattle.device.proofs.effects.tick.Goals as goal
 

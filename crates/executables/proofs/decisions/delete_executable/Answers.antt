@@ -1,7 +1,6 @@
 use native.Mathlib.Omega.{arith}
 use Rattle.executables.proofs.ExecutableCodes.{delete_executable_told}
 use Rattle.handling.proofs.Decided.{unformed, formed}
-use borrow.Author.Rules.{rules}
 use mathlib.Core.Bool.{not}
 use mathlib.Core.Path.{ap}
 use Rattle.executables.proofs.decisions.delete_executable.Goals as goal

@@ -1,11 +1,9 @@
 use mathlib.Core.Path.{◌≡◌, sym, ◌∙◌}
 use native.Mathlib.Omega.{arith}
 use Rattle.records.specs.Phone.{decode}
-use Rattle.rules.specs.{Forms.{with_kind, executable_form}, Codes.{executable_known, code_of}}
-use Rattle.lookup.specs.declared.Room.{Room}
+use Rattle.rules.specs.{Forms.{executable_form}, Codes.{executable_known}}
 use Rattle.handling.proofs.{CodeRows.{here, next, rest, says}, PlanLaws.{plan_refused, plan_on}}
-use Rattle.executables.proofs.{ExecutableCodes.install_executable_told, ExecutableRooms.{executable_code, executable_told, executable_filled}}
-use borrow.Author.Rules.{rules}
+use Rattle.executables.proofs.{ExecutableCodes.install_executable_told, ExecutableRooms.{executable_told, executable_filled}}
 use Rattle.executables.proofs.decisions.install_executable.Goals as goal
 
 pub returns-then-not-executable_form : goal.returns-then-not-executable_form

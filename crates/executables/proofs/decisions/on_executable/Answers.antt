@@ -3,7 +3,6 @@ use native.Mathlib.Omega.{arith}
 use Rattle.rules.specs.Codes.{is_executable}
 use Rattle.lookup.proofs.FoundSlot.{at_first}
 use Rattle.handling.proofs.{CodeRows.{none, here, next, gives, says}, PlanLaws.{plan_refused, plan_on}, Named.{executable_missing, executable_found}}
-use borrow.Author.Rules.{rules}
 use Rattle.executables.proofs.decisions.on_executable.Goals as goal
 
 pub returns-then-not-may_act : goal.returns-then-not-may_act

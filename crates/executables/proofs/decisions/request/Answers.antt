@@ -1,11 +1,9 @@
-use mathlib.Core.Path.{◌≡◌, refl, sym, ap, ◌∙◌}
+use mathlib.Core.Path.{refl, sym, ap, ◌∙◌}
 use native.Mathlib.Omega.{arith}
 use Rattle.records.specs.Phone.{decode}
-use Rattle.rules.specs.{Forms.action_form, Codes.executable_named}
 use Rattle.terms.proofs.FormTests.{action_below}
 use Rattle.handling.proofs.{CodeRows.says, PlanLaws.on_slot, Named.executable_here, Decided.{unformed, formed, refused_first, refused_next, on_next}}
 use Rattle.executables.proofs.{ExecutableCodes.request_told, ActsOnExecutable.known_within}
-use borrow.Author.Rules.{rules}
 use mathlib.Core.Bool.{not}
 use Rattle.executables.proofs.decisions.request.Goals as goal
 

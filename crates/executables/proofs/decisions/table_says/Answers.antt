@@ -1,8 +1,6 @@
-use Prim.Native.Nat.{ℕ}
-use mathlib.Core.{Bool.{true, false, not, ◌&&◌}, Path.{◌≡◌, sym, ap₂, ◌∙◌}}
-use borrow.{Author.Tests.{eq-eqb, ne_eqb}, Author.Rules.rules}
+use mathlib.Core.{Bool.{true, not, ◌&&◌}, Path.{◌≡◌, sym, ap₂, ◌∙◌}}
+use borrow.{Author.Tests.{eq-eqb, ne_eqb}}
 use lib.Dec.{eqb}
-use Rattle.bits.specs.Bits.{has_bit}
 use Rattle.records.specs.{Layout.row_byte, Phone.{decode, row_at}}
 use Rattle.handling.proofs.CodeRows.{none, here, next, gives}
 use Rattle.executables.proofs.decisions.table_says.Goals as goal

@@ -1,10 +1,7 @@
-use mathlib.Core.{Bool.false, Path.◌≡◌}
+use mathlib.Core.{Bool.false}
 use native.Mathlib.Omega.{arith}
-use Rattle.records.specs.Phone.{decode}
-use Rattle.rules.specs.Forms.{action_form}
 use Rattle.executables.proofs.ExecutableCodes.{permit_told}
 use Rattle.handling.proofs.Decided.{unformed, formed}
-use borrow.Author.Rules.{rules}
 use mathlib.Core.Bool.{not}
 use mathlib.Core.Path.{ap}
 use Rattle.executables.proofs.decisions.withdraw.Goals as goal

@@ -1,4 +1,3 @@
-use borrow.Author.Rules.{rules}
 use Rattle.bits.specs.Bits.{set_bit}
 use Rattle.executables.proofs.ExecutableWrites.{permissions_written}
 use Rattle.executables.proofs.effects.give.Goals as goal

@@ -1,4 +1,3 @@
-use borrow.Author.Rules.{rules}
 use Rattle.rules.specs.Effects.{install_executable}
 use Rattle.laws.proofs.Tables.{executables}
 use Rattle.handling.proofs.SlotWrites.{write_is_fill}

@@ -1,5 +1,4 @@
 use mathlib.Core.Path.{ap, ◌∙◌}
-use borrow.Author.Rules.{rules}
 use Rattle.rules.specs.Chains.{chain_of}
 use Rattle.records.specs.Phone.{decode}
 use Rattle.executables.proofs.ExecutableWrites.{domain_written}

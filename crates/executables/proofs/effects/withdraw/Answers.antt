@@ -1,4 +1,3 @@
-use borrow.Author.Rules.{rules}
 use Rattle.bits.specs.Bits.{clear_bit}
 use Rattle.executables.proofs.ExecutableWrites.{permissions_written}
 use Rattle.executables.proofs.effects.withdraw.Goals as goal

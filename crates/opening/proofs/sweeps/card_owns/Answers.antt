@@ -1,5 +1,4 @@
 use Rattle.opening.proofs.ByParts.{card_owned, not_asked}
-use borrow.Author.Rules.{rules}
 use Rattle.opening.proofs.sweeps.card_owns.Goals as goal
 
 pub returns-then-on_a_card : goal.returns-then-on_a_card

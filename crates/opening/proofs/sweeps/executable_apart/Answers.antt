@@ -1,10 +1,8 @@
 use borrow.Author.Rules.{rules}
 use native.Mathlib.Omega.{arith}
-use Prim.Native.Nat.{◌≤◌, ◌-◌}
-use lib.{Dec.eqb, ListN.take}
-use mathlib.Core.{Bool.{true, not}, Logic.◌≢◌, Path.{◌≡◌, refl, sym, ap, ◌∙◌}}
-use Rattle.records.specs.Phone.{decode, no_executable, executable_at}
-use Rattle.rules.specs.{Words.all, Parts.apart}
+use lib.{Dec.eqb}
+use mathlib.Core.{Bool.{not}, Path.{refl, sym, ap, ◌∙◌}}
+use Rattle.records.specs.Phone.{no_executable}
 use Rattle.laws.proofs.More.{all_grows, below_fails, below_goes_on, below_passes}
 use Rattle.opening.proofs.ByParts.{zero_apart, not_same}
 use Rattle.opening.proofs.sweeps.executable_apart.Goals as goal

@@ -1,12 +1,8 @@
-use borrow.Author.Rules.{rules}
-use native.Mathlib.Omega.{arith}
 use Prim.Native.Nat.{◌≤◌, ◌-◌}
-use lib.{Dec.eqb, ListN.take}
-use mathlib.Core.{Bool.{true, not}, Logic.◌≢◌, Path.{◌≡◌, refl, sym, ap, ◌∙◌}}
-use Rattle.records.specs.Phone.{decode, no_executable, executable_at}
+use lib.{ListN.take}
+use mathlib.Core.{Bool.{true}, Logic.◌≢◌, Path.{◌≡◌}}
+use Rattle.records.specs.Phone.{decode, executable_at}
 use Rattle.rules.specs.{Words.all, Parts.apart}
-use Rattle.laws.proofs.More.{all_grows, below_fails, below_goes_on, below_passes}
-use Rattle.opening.proofs.ByParts.{zero_apart, not_same}
 use Rattle.opening.proofs.sweeps.executable_apart.Given as goal
 
 abbrev pub invariant-loop-j : goal.invariant-loop-j

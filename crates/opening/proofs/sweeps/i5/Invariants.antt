@@ -1,13 +1,8 @@
-use borrow.Author.Rules.{rules}
-use native.Mathlib.Omega.{arith}
 use Prim.Native.Nat.{◌≤◌, ◌-◌}
 use lib.ListN.{length, take}
-use mathlib.Core.{Bool.true, Path.{◌≡◌, refl}}
-use Rattle.records.specs.Phone.{decode, no_certificate}
+use mathlib.Core.{Bool.true, Path.{◌≡◌}}
+use Rattle.records.specs.Phone.{decode}
 use Rattle.rules.specs.{ImageRules.i5, Faults.of_certificates}
-use Rattle.laws.proofs.{Lowest.{breaks_here, keeps_on, breaks_nowhere}, RulesGrow.i5_grows}
-use mathlib.Core.Bool.{not}
-use mathlib.Core.Path.{ap}
 use Rattle.opening.proofs.sweeps.i5.Given as goal
 
 abbrev pub invariant-loop-i : goal.invariant-loop-i

@@ -1,10 +1,6 @@
 use borrow.Author.Rules.{rules}
 use native.Mathlib.Omega.{arith}
-use Prim.Native.Nat.{◌≤◌, ◌-◌}
-use lib.ListN.{take}
-use mathlib.Core.{Bool.true, Path.◌≡◌}
-use Rattle.records.specs.Phone.{decode, no_certificate, certificate_at}
-use Rattle.rules.specs.{Words.all, Parts.i5_pair}
+use Rattle.records.specs.Phone.{no_certificate}
 use Rattle.laws.proofs.More.{all_grows, below_fails, below_goes_on, below_passes}
 use mathlib.Core.Bool.{not}
 use mathlib.Core.Path.{ap}

@@ -1,5 +1,4 @@
 use Rattle.opening.proofs.ByParts.{i5_spared}
-use borrow.Author.Rules.{rules}
 use Rattle.opening.proofs.sweeps.i5_with.Goals as goal
 
 pub returns-then-not-is_asked : goal.returns-then-not-is_asked

@@ -1,10 +1,7 @@
 use borrow.Author.Rules.{rules}
 use native.Mathlib.Omega.{arith}
-use Prim.Native.Nat.{◌≤◌, ◌-◌}
-use lib.ListN.{length, take}
-use mathlib.Core.{Bool.true, Path.{◌≡◌, refl}}
+use mathlib.Core.{Path.{refl}}
 use Rattle.records.specs.Phone.{decode, no_executable}
-use Rattle.rules.specs.{ImageRules.i7, Faults.of_executables}
 use Rattle.laws.proofs.{Lowest.{breaks_here, keeps_on, breaks_nowhere}, RulesGrow.i7_grows}
 use mathlib.Core.Bool.{not}
 use mathlib.Core.Path.{ap}

@@ -1,13 +1,8 @@
-use borrow.Author.Rules.{rules}
-use native.Mathlib.Omega.{arith}
 use Prim.Native.Nat.{◌≤◌, ◌-◌}
 use lib.ListN.{take}
 use mathlib.Core.{Bool.true, Path.◌≡◌}
-use Rattle.records.specs.Phone.{decode, no_certificate, certificate_at}
+use Rattle.records.specs.Phone.{decode, certificate_at}
 use Rattle.rules.specs.{Words.all, ImageRules.key_of_one_domain}
-use Rattle.laws.proofs.More.{all_grows, below_fails, below_goes_on, below_passes}
-use mathlib.Core.Bool.{not}
-use mathlib.Core.Path.{ap}
 use Rattle.opening.proofs.sweeps.key_apart.Given as goal
 
 abbrev pub invariant-loop-j : goal.invariant-loop-j

@@ -1,5 +1,4 @@
 use mathlib.Core.{Bool.◌&&◌, Path.ap₂}
-use borrow.Author.Rules.{rules}
 use Rattle.opening.proofs.sweeps.neither_way.Goals as goal
 
 pub returns : goal.returns

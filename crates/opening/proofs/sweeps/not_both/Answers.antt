@@ -1,5 +1,4 @@
 use Rattle.rules.specs.{ImageRules.not_both, Words.◌implies◌}
-use borrow.Author.Rules.{rules}
 use Rattle.opening.proofs.sweeps.not_both.Goals as goal
 
 pub returns : goal.returns

@@ -1,5 +1,4 @@
 use Rattle.rules.specs.{ImageRules.one_manufacturer, Words.◌implies◌}
-use borrow.Author.Rules.{rules}
 use Rattle.opening.proofs.sweeps.one_manufacturer.Goals as goal
 
 pub returns : goal.returns

@@ -1,6 +1,5 @@
 use Rattle.opening.proofs.ByParts.{implied, spared}
 use Rattle.rules.specs.ImageRules.{owned_by_card}
-use borrow.Author.Rules.{rules}
 use Rattle.opening.proofs.sweeps.owned_by_card.Goals as goal
 
 pub returns-then-valid_in-c : goal.returns-then-valid_in-c

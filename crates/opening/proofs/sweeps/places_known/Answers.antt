@@ -1,10 +1,6 @@
 use borrow.Author.Rules.{rules}
 use native.Mathlib.Omega.{arith}
-use Prim.Native.Nat.{◌≤◌, ◌-◌}
-use lib.ListN.{length, take}
-use mathlib.Core.{Bool.true, Path.◌≡◌}
-use Rattle.records.specs.Phone.{decode, no_certificate}
-use Rattle.rules.specs.{Words.all, ImageRules.known_place}
+use Rattle.records.specs.Phone.{no_certificate}
 use Rattle.laws.proofs.{Lowest.{breaks_here, keeps_on, breaks_nowhere}, More.all_grows}
 use mathlib.Core.Bool.{not}
 use mathlib.Core.Path.{ap}

@@ -1,10 +1,7 @@
 use borrow.Author.Rules.{rules}
 use native.Mathlib.Omega.{arith}
-use Prim.Native.Nat.{◌≤◌, ◌-◌}
-use lib.ListN.{length, take}
-use mathlib.Core.{Bool.true, Path.◌≡◌}
-use Rattle.records.specs.Phone.{decode, no_certificate}
-use Rattle.rules.specs.{Words.all, ImageRules.slot_fits}
+use Rattle.records.specs.Phone.{no_certificate}
+use Rattle.rules.specs.{ImageRules.slot_fits}
 use Rattle.laws.proofs.{Lowest.{breaks_here, keeps_on, breaks_nowhere}, More.all_grows}
 use mathlib.Core.Bool.{not}
 use mathlib.Core.Path.{ap}

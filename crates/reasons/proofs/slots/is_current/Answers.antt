@@ -1,4 +1,3 @@
-use borrow.Author.Rules.{rules}
 use Rattle.reasons.proofs.slots.is_current.Goals as goal
 
 pub returns : goal.returns

@@ -1,11 +1,8 @@
-use borrow.{Author.Rules.rules, Author.Tests.{eq-eqb, ne_eqb}}
-use native.Mathlib.Omega.{arith}
 use Prim.Native.Nat.{◌≤◌, ◌-◌}
-use mathlib.Core.Path.{◌≡◌, refl}
+use mathlib.Core.Path.{◌≡◌}
 use lib.ListN.{length, drop}
-use Rattle.records.specs.Phone.{decode, no_certificate}
+use Rattle.records.specs.Phone.{decode}
 use Rattle.rules.specs.Words.{any}
-use Rattle.laws.proofs.Loops.{any_stops, any_goes_on, any_fails}
 use Rattle.explanations.specs.Why.{has_key}
 use Rattle.reasons.proofs.slots.is_held.Given as goal
 

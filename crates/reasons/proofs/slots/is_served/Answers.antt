@@ -1,10 +1,7 @@
 use borrow.Author.Rules.{rules}
 use native.Mathlib.Omega.{arith}
-use Prim.Native.Nat.{◌≤◌, ◌-◌}
-use mathlib.Core.Path.{◌≡◌, refl, sym, ◌∙◌}
-use lib.ListN.{length, drop}
-use Rattle.records.specs.Phone.{decode, no_certificate}
-use Rattle.rules.specs.{Words.any, Chains.{serves, good}}
+use mathlib.Core.Path.{refl, sym, ◌∙◌}
+use Rattle.records.specs.Phone.{no_certificate}
 use Rattle.laws.proofs.Loops.{any_stops, any_goes_on, any_fails}
 use Rattle.reasons.proofs.slots.is_served.Goals as goal
 

@@ -1,11 +1,8 @@
-use borrow.Author.Rules.{rules}
-use native.Mathlib.Omega.{arith}
 use Prim.Native.Nat.{◌≤◌, ◌-◌}
-use mathlib.Core.Path.{◌≡◌, refl, sym, ◌∙◌}
+use mathlib.Core.Path.{◌≡◌}
 use lib.ListN.{length, drop}
-use Rattle.records.specs.Phone.{decode, no_certificate}
+use Rattle.records.specs.Phone.{decode}
 use Rattle.rules.specs.{Words.any, Chains.{serves, good}}
-use Rattle.laws.proofs.Loops.{any_stops, any_goes_on, any_fails}
 use Rattle.reasons.proofs.slots.is_served.Given as goal
 
 abbrev pub invariant-loop-i : goal.invariant-loop-i

@@ -1,5 +1,4 @@
 use Rattle.reasons.proofs.Sweeps.{serves_yes, serves_not}
-use borrow.Author.Rules.{rules}
 use Rattle.reasons.proofs.slots.is_serving.Goals as goal
 
 pub returns-then-c-domain : goal.returns-then-c-domain

@@ -1,11 +1,8 @@
-use borrow.Author.Rules.{rules}
-use native.Mathlib.Omega.{arith}
-use Prim.Native.Nat.{◌≤◌, ◌-◌}
-use mathlib.Core.Path.{◌≡◌, ap, ◌∙◌}
+use Prim.Native.Nat.{◌≤◌}
+use mathlib.Core.Path.{◌≡◌}
 use lib.ListN.{length, drop}
-use Rattle.records.specs.Phone.{decode, no_certificate}
+use Rattle.records.specs.Phone.{decode}
 use Rattle.explanations.specs.Why.{has_key, lowest}
-use Rattle.reasons.proofs.Sweeps.{lowest_end, lowest_back, lowest_done}
 use Rattle.reasons.proofs.slots.lowest_holder.Given as goal
 
 abbrev pub invariant-loop-i : goal.invariant-loop-i

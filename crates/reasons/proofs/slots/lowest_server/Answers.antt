@@ -1,11 +1,7 @@
 use borrow.Author.Rules.{rules}
 use native.Mathlib.Omega.{arith}
-use Prim.Native.Nat.{◌≤◌, ◌-◌}
-use mathlib.Core.Path.{◌≡◌, ◌∙◌}
-use lib.ListN.{length, drop}
-use Rattle.records.specs.Phone.{decode, no_certificate}
-use Rattle.rules.specs.Chains.{serves, good}
-use Rattle.explanations.specs.Why.{lowest}
+use Prim.Native.Nat.{◌-◌}
+use mathlib.Core.Path.{◌∙◌}
 use Rattle.reasons.proofs.Sweeps.{lowest_end, lowest_back, lowest_done}
 use Rattle.reasons.proofs.slots.lowest_server.Goals as goal
 

@@ -1,4 +1,3 @@
-use borrow.Author.Rules.{rules}
 use Rattle.records.proofs.Certificate.read.Goals as goal
 
 pub returns : goal.returns

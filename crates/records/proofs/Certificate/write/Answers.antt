@@ -1,6 +1,5 @@
 use native.Mathlib.Omega.{arith}
 use Rattle.records.proofs.Puts.{put_next}
-use borrow.Author.Rules.{rules}
 use Rattle.records.proofs.Certificate.write.Goals as goal
 
 pub returns : goal.returns

@@ -1,6 +1,5 @@
 use native.Mathlib.Omega.{arith}
 use Rattle.records.proofs.Puts.{done, more, written}
-use borrow.Author.Rules.{rules}
 use Rattle.records.proofs.Certificate.write_small.Goals as goal
 
 pub returns : goal.returns

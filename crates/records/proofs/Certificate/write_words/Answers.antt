@@ -1,6 +1,5 @@
 use native.Mathlib.Omega.{arith}
 use Rattle.records.proofs.Puts.{done, more, written_from}
-use borrow.Author.Rules.{rules}
 use Rattle.records.proofs.Certificate.write_words.Goals as goal
 
 pub returns : goal.returns

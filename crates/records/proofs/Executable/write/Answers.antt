@@ -1,5 +1,4 @@
 use Rattle.records.proofs.Puts.{done, more, written}
-use borrow.Author.Rules.{rules}
 use Rattle.records.proofs.Executable.write.Goals as goal
 
 pub returns : goal.returns

@@ -1,6 +1,5 @@
 use mathlib.Core.Path.{◌∙◌}
 use Rattle.records.proofs.Said.{certificate_said}
-use borrow.Author.Rules.{rules}
 use Rattle.records.proofs.image.certificate.Goals as goal
 
 pub returns : goal.returns

@@ -1,6 +1,5 @@
 use mathlib.Core.Path.{◌∙◌}
 use Rattle.records.proofs.FramedWrites.{certificate_cleared}
-use borrow.Author.Rules.{rules}
 use Rattle.records.proofs.image.clear_certificate.Goals as goal
 
 pub returns : goal.returns

@@ -1,7 +1,6 @@
 use Rattle.records.proofs.Wrong.{too_short, wrong_version, many_certificates, many_cards, many_executables, counts_right}
 use mathlib.Core.Path.{sym, ◌∙◌}
 use native.Mathlib.Omega.{arith}
-use borrow.Author.Rules.{rules}
 use Rattle.records.proofs.image.header_fault.Goals as goal
 
 pub returns-then-size-lt-SIZE : goal.returns-then-size-lt-SIZE

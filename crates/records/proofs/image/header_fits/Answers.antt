@@ -1,5 +1,4 @@
 use Rattle.records.specs.Frame.{header_fits}
-use borrow.Author.Rules.{rules}
 use Rattle.records.proofs.image.header_fits.Goals as goal
 
 pub returns : goal.returns

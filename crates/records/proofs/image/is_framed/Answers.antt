@@ -1,4 +1,4 @@
-use borrow.{Author.Tests.{lt-leb, le-leb}, Author.Rules.rules}
+use borrow.{Author.Tests.{lt-leb, le-leb}}
 use Rattle.records.specs.Frame.{framed}
 use Rattle.records.proofs.image.is_framed.Goals as goal
 

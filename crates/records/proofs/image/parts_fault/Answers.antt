@@ -1,6 +1,5 @@
 use Rattle.records.proofs.Wrong.{wrong_certificates_at, wrong_cards_at, wrong_executables_at, wrong_table_at, wrong_total}
 use native.Mathlib.Omega.{arith}
-use borrow.Author.Rules.{rules}
 use Rattle.records.proofs.image.parts_fault.Goals as goal
 
 pub returns-then-certificates_at-ne-CERTIFICATES : goal.returns-then-certificates_at-ne-CERTIFICATES

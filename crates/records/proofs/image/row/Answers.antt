@@ -1,6 +1,5 @@
 use mathlib.Core.Path.{◌∙◌}
 use Rattle.records.proofs.Said.{row_said}
-use borrow.Author.Rules.{rules}
 use Rattle.records.proofs.image.row.Goals as goal
 
 pub returns : goal.returns

@@ -1,6 +1,5 @@
 use mathlib.Core.Path.{◌∙◌}
 use Rattle.records.proofs.FramedWrites.{domain_written}
-use borrow.Author.Rules.{rules}
 use Rattle.records.proofs.image.set_domain.Goals as goal
 
 pub returns : goal.returns

@@ -1,6 +1,5 @@
 use mathlib.Core.Path.{◌∙◌}
 use Rattle.records.proofs.FramedWrites.{mode_written}
-use borrow.Author.Rules.{rules}
 use Rattle.records.proofs.image.set_mode.Goals as goal
 
 pub returns : goal.returns

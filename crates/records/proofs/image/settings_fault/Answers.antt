@@ -1,7 +1,6 @@
 use Rattle.records.proofs.Wrong.{no_action, many_actions, wrong_mode, wrong_blank, settings_right}
 use mathlib.Core.Path.{sym, ◌∙◌}
 use native.Mathlib.Omega.{arith}
-use borrow.Author.Rules.{rules}
 use Rattle.records.proofs.image.settings_fault.Goals as goal
 
 pub returns-then-actions-eq0 : goal.returns-then-actions-eq0

@@ -1,6 +1,5 @@
 use mathlib.Core.Path.{◌∙◌}
 use Rattle.records.proofs.Said.{table_byte_said}
-use borrow.Author.Rules.{rules}
 use Rattle.records.proofs.image.table_byte.Goals as goal
 
 pub returns : goal.returns

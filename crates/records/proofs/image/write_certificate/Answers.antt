@@ -1,6 +1,5 @@
 use mathlib.Core.Path.{◌∙◌}
 use Rattle.records.proofs.FramedWrites.{certificate_written}
-use borrow.Author.Rules.{rules}
 use Rattle.records.proofs.image.write_certificate.Goals as goal
 
 pub returns : goal.returns

@@ -1,6 +1,5 @@
 use mathlib.Core.Path.{◌∙◌}
 use Rattle.records.proofs.FramedWrites.{executable_written}
-use borrow.Author.Rules.{rules}
 use Rattle.records.proofs.image.write_executable.Goals as goal
 
 pub returns : goal.returns

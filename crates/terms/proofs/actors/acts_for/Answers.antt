@@ -1,7 +1,6 @@
 use mathlib.Core.{Bool.{not, ◌&&◌, ◌||◌}, Path.ap}
 use lib.Dec.{eqb}
 use Rattle.rules.specs.{Words.between, Actors.acts_for}
-use borrow.Author.Rules.{rules}
 use Rattle.terms.proofs.actors.acts_for.Goals as goal
 
 pub returns : goal.returns

@@ -3,7 +3,6 @@ use mathlib.Core.{Bool.Bool, List.{List, [], ◌∷◌}, Path.◌≡◌}
 use lib.{Dec.{T, eqb}, Bits.bit_and, ListN.get_or}
 use Rattle.rules.specs.Actors.{may_act}
 use Rattle.terms.proofs.Finite.{all_below, below, same, same_is}
-use borrow.Author.Rules.{rules}
 use Rattle.terms.proofs.actors.may_act.Goals as goal
 
 -- what a table says of a kind, a domain and an actor

@@ -1,4 +1,3 @@
-use borrow.Author.Rules.{rules}
 use Rattle.terms.proofs.FormTests.{action_form_is}
 use Rattle.terms.proofs.forms.action_form.Goals as goal
 

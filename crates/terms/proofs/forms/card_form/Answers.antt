@@ -1,4 +1,3 @@
-use borrow.Author.Rules.{rules}
 use Rattle.terms.proofs.FormTests.{card_form_is}
 use Rattle.terms.proofs.forms.card_form.Goals as goal
 

@@ -1,4 +1,3 @@
-use borrow.Author.Rules.{rules}
 use Rattle.terms.proofs.FormTests.{clock_form_is}
 use Rattle.terms.proofs.forms.clock_form.Goals as goal
 

@@ -1,4 +1,3 @@
-use borrow.Author.Rules.{rules}
 use Rattle.terms.proofs.FormTests.{executable_form_is}
 use Rattle.terms.proofs.forms.executable_form.Goals as goal
 

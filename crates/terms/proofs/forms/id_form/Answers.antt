@@ -1,4 +1,3 @@
-use borrow.Author.Rules.{rules}
 use Rattle.terms.proofs.FormTests.{id_form_is}
 use Rattle.terms.proofs.forms.id_form.Goals as goal
 

@@ -1,9 +1,9 @@
-use Prim.Native.Nat.{◌<◌, ◌≤◌, ◌-◌}
-use mathlib.Core.{Bool.not, Path.{◌≡◌, refl, ap}}
+use Prim.Native.Nat.{◌<◌}
+use mathlib.Core.{Bool.not, Path.{refl, ap}}
 use native.Mathlib.Omega.{arith}
 use borrow.{Author.Tests.{eq-eqb, ne_eqb}, Author.Rules.rules}
-use lib.{Dec.eqb, ListN.drop}
-use Rattle.rules.specs.{Words.all, Forms.listed}
+use lib.{Dec.eqb}
+use Rattle.rules.specs.{Forms.listed}
 use Rattle.laws.proofs.Loops.{all_stops, all_goes_on, all_passes}
 use Rattle.terms.proofs.Listed.{listed_length, listed_at}
 use Rattle.terms.proofs.forms.listed_not_zero.Goals as goal

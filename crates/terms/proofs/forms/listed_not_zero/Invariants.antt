@@ -1,11 +1,7 @@
-use Prim.Native.Nat.{◌<◌, ◌≤◌, ◌-◌}
-use mathlib.Core.{Bool.not, Path.{◌≡◌, refl, ap}}
-use native.Mathlib.Omega.{arith}
-use borrow.{Author.Tests.{eq-eqb, ne_eqb}, Author.Rules.rules}
+use Prim.Native.Nat.{◌≤◌, ◌-◌}
+use mathlib.Core.{Bool.not, Path.{◌≡◌}}
 use lib.{Dec.eqb, ListN.drop}
 use Rattle.rules.specs.{Words.all, Forms.listed}
-use Rattle.laws.proofs.Loops.{all_stops, all_goes_on, all_passes}
-use Rattle.terms.proofs.Listed.{listed_length, listed_at}
 use Rattle.terms.proofs.forms.listed_not_zero.Given as goal
 
 abbrev pub invariant-loop-i : goal.invariant-loop-i

@@ -1,4 +1,3 @@
-use borrow.Author.Rules.{rules}
 use Rattle.terms.proofs.FormTests.{message_long, message_short}
 use Rattle.terms.proofs.forms.message_form.Goals as goal
 

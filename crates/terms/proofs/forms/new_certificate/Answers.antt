@@ -1,4 +1,3 @@
-use borrow.Author.Rules.{rules}
 use Rattle.terms.proofs.FormTests.{new_is}
 use Rattle.terms.proofs.forms.new_certificate.Goals as goal
 

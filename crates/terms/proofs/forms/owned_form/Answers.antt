@@ -1,4 +1,3 @@
-use borrow.Author.Rules.{rules}
 use Rattle.terms.proofs.FormTests.{owned_form_is}
 use Rattle.terms.proofs.forms.owned_form.Goals as goal
 

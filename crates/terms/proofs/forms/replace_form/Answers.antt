@@ -1,4 +1,3 @@
-use borrow.Author.Rules.{rules}
 use Rattle.terms.proofs.FormTests.{replace_form_is}
 use Rattle.terms.proofs.forms.replace_form.Goals as goal
 

@@ -1,9 +1,7 @@
-use Prim.Native.Nat.{◌≤◌, ◌-◌}
-use mathlib.Core.Path.{◌≡◌, refl, sym, ◌∙◌}
+use mathlib.Core.Path.{refl, sym, ◌∙◌}
 use native.Mathlib.Omega.{arith}
 use borrow.Author.Rules.{rules}
-use lib.ListN.{drop}
-use Rattle.rules.specs.{Words.all_zero, Forms.{eight, unlisted}}
+use Rattle.rules.specs.{Forms.{eight}}
 use Rattle.terms.proofs.Listed.{zero_stops, zero_goes_on, zero_passes}
 use Rattle.terms.proofs.forms.unlisted_zero.Goals as goal
 

@@ -1,10 +1,7 @@
 use Prim.Native.Nat.{◌≤◌, ◌-◌}
-use mathlib.Core.Path.{◌≡◌, refl, sym, ◌∙◌}
-use native.Mathlib.Omega.{arith}
-use borrow.Author.Rules.{rules}
+use mathlib.Core.Path.{◌≡◌}
 use lib.ListN.{drop}
 use Rattle.rules.specs.{Words.all_zero, Forms.{eight, unlisted}}
-use Rattle.terms.proofs.Listed.{zero_stops, zero_goes_on, zero_passes}
 use Rattle.terms.proofs.forms.unlisted_zero.Given as goal
 
 abbrev pub invariant-loop-i : goal.invariant-loop-i
