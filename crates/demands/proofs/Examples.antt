@@ -9,7 +9,7 @@ use Rattle.rules.specs.WorkedRun.{image}
 use Rattle.demands.specs.Runs.{WithdrawingRun, GivingRun, verified}
 use Rattle.keeping.specs.OneEvent.{event_of, phone_after}
 
--- ---- runs of 01's image that change a grant; that it is accepted is `image-accepted` of crates/rules/specs/WorkedRun.antt
+-- ---- runs of 01's image that change a grant; that it is accepted is `image_accepted` of crates/rules/specs/WorkedRun.antt
 
 -- the clock a second past the expiry of the certificate that signed executable 1
 abbrev clock_201 : List ℕ

@@ -1,8 +1,8 @@
 -- THE THEOREMS. Each sentence of the three demands, and of 02's items 1, 4, 5 and 7, with its statement; the files cited hold the arguments. Assumes nothing.
 -- l is an image and v an event, both any bytes; vs is a run of events, refused ones among them.
 -- What the statements speak of: `step`, `run` (rules, specs/Step), `code`, `rows` (specs/Codes), `accepted` (specs/ImageRules),
--- `grants` (specs/Demands), `Chain-within`, `Shortest` (specs/Explicit), here specs/Runs, MayTouch, RecoveryKeys and Owners, and `event-of`,
--- `key-named`, `phone-after` (keeping, specs/OneEvent); of a fault: `fault`, `fault-offset` (rules, specs/Faults), `Lowest-at`, `Wrong-field`
+-- `grants` (specs/Demands), `ChainWithin`, `Shortest` (specs/Explicit), here specs/Runs, MayTouch, RecoveryKeys and Owners, and `event_of`,
+-- `key_named`, `phone_after` (keeping, specs/OneEvent); of a fault: `fault`, `fault_offset` (rules, specs/Faults), `LowestAt`, `WrongField`
 -- (specs/Named).
 use Prim.Native.Nat.{ℕ, suc, ◌≤◌, ◌<◌}
 use mathlib.Core.{Bool.{true, false}, List.{List, Memᴰ}, Logic.{◌≢◌, ◌⊎◌, ◌↔◌}, Path.{◌≡◌, ap, ◌∙◌, subst}}
@@ -318,7 +318,7 @@ replace_in_neither p e k = Recovering.in_neither p e k
 pub trusted_in_date : (t : Trust) (c : Certificate) → T (trusted_root t.seen c) → t.seen.clock ≤ c.expiry
 trusted_in_date t c h = Dated.trusted_in_date t c h
 
--- "\"valid\" in demand 2, I5, the card rule and code 13 means marked valid and not past its date": all four ask `valid-root`
+-- "\"valid\" in demand 2, I5, the card rule and code 13 means marked valid and not past its date": all four ask `valid_root`
 pub valid_means : (clock : ℕ) (c : Certificate) → T (valid_root clock c) ↔ ((c.kind ≡ 0) × (c.mark ≡ 1) × (clock ≤ c.expiry))
 valid_means clock c = Dated.valid_means clock c
 
@@ -336,7 +336,7 @@ acts_as_owner l v h s = Owned.acts_as_owner (decode l) (event_of v) (eq→eqb _ 
 pub acts_as_owner_run : (l : List ℕ) (vs : List (List ℕ)) → AsOwners l vs
 acts_as_owner_run = Owned.in_a_run acts_as_owner
 
--- "the second deleted the first one's keys": now a certificate of another owner is kept, but for the mark of a root past its date (`old-mark-taken`,
+-- "the second deleted the first one's keys": now a certificate of another owner is kept, but for the mark of a root past its date (`old_mark_taken`,
 -- in Examples)
 pub touches_its_own : (l v : List ℕ) → code l v ≡ 0 → T (somebody (event_of v)) → (i : ℕ)
     → OwnerKept (decode l).trust.seen.clock (event_of v) (certificate_at (decode l) i) (certificate_at (phone_after l v) i)

@@ -1,4 +1,4 @@
--- What `by-id` lists: every record that passes with an id above n, in order of id, and no other. Assumes nothing.
+-- What `by_id` lists: every record that passes with an id above n, in order of id, and no other. Assumes nothing.
 use Prim.Native.Nat.{ℕ, zero, suc, ◌+◌, ◌≤◌, ◌<◌}
 use mathlib.Core.Bool.{Bool, true, false, cond, not, ◌&&◌}
 use mathlib.Core.List.Memᴰ

@@ -1,5 +1,5 @@
 -- THE THEOREMS of 02, item 2, for an accepted phone p and any executable x. Each sentence with its statement. Assumes nothing.
--- What they speak of: `explained`, `reasons`, `holders`, `its-chain` (specs/Why), `First`, `Refusal`, `Rising`, `Lowest-each`,
+-- What they speak of: `explained`, `reasons`, `holders`, `its_chain` (specs/Why), `First`, `Refusal`, `Rising`, `LowestEach`,
 -- `cases` (specs/Claims), and `Chain`, `Shortest` (rules, specs/Explicit).
 use Prim.Native.Nat.{ℕ, ◌≤◌}
 use mathlib.Core.{Bool.{true, not}, List.{List, [], ◌∷◌, map, Memᴰ, map-map}, Logic.{◌≢◌, ◌↔◌}, Path.{◌≡◌, refl}}

@@ -12,7 +12,7 @@ use Rattle.rules.specs.Codes.{code_of, subject, recovery_named, id_unknown, acto
 use Rattle.rules.specs.Codes.{key_elsewhere, install_of_other, mark_of_other, no_such_root, another_valid, no_free_slot, table_byte, never, not_permitted}
 use Rattle.rules.specs.Codes.{may_replace, cannot_replace, out_of_date}
 
--- the table and its tests under one name: with a line `unfolding the-table` they compute at a known kind
+-- the table and its tests under one name: with a line `unfolding the_table` they compute at a known kind
 unfoldable pub the_table : Unit {0}
 unfolding first code_of malformed subject recovery_named acts_for id_unknown actor_barred time_back card_unknown card_wrong card_away id_taken key_elsewhere
     install_of_other mark_of_other no_such_root another_valid no_free_slot table_byte never not_permitted may_replace cannot_replace

@@ -10,7 +10,7 @@ use Rattle.rules.specs.Demands.{withdrawing}
 use Rattle.laws.proofs.Tests.{and_l, and_r}
 pub use Rattle.rules.specs.Forms.{with_kind}
 
--- the effects under one name: with a line `unfolding the-effects` they compute at a known kind, but for power up, which looks at the card
+-- the effects under one name: with a line `unfolding the_effects` they compute at a known kind, but for power up, which looks at the card
 unfoldable pub the_effects : Unit {0}
 unfolding effect tick card_in card_out card_rule install_certificate delete_certificate mark_valid mark_invalid message
     install_executable delete_executable verify permit request replace

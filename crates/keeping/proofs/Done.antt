@@ -11,7 +11,7 @@ use Rattle.rules.specs.After.{after}
 use Rattle.laws.proofs.Tests.{and_i, not_intro, neqb→ne, first_in}
 use Rattle.keeping.proofs.{Unrefused.{Unrefused, unrefused}}
 
--- every test of the table under one name: with a line `unfolding the-tests` they compute at a known kind
+-- every test of the table under one name: with a line `unfolding the_tests` they compute at a known kind
 unfoldable pub the_tests : Unit {0}
 unfolding id_unknown actor_barred time_back card_unknown card_wrong card_away id_taken key_elsewhere
     install_of_other mark_of_other no_such_root another_valid no_free_slot never not_permitted cannot_replace out_of_date may_act acts_for all_zero

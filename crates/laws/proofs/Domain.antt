@@ -1,4 +1,4 @@
--- The domain that a key chains to: I4 makes it one, and `chain-domain` finds it. Assumes nothing.
+-- The domain that a key chains to: I4 makes it one, and `chain_domain` finds it. Assumes nothing.
 use Prim.Native.Nat.{ℕ, ◌≤◌}
 use mathlib.Core.{Bool.{Bool, true, false, cond, not}, List.Memᴰ, Logic.{◌≢◌, ◌⊎◌, inl, inr}, Path.{◌≡◌, refl, subst, sym, ◌∙◌}}
 use native.Mathlib.Omega.{arith}

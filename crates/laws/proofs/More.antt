@@ -1,4 +1,4 @@
--- Rules that grow by one record: `all`, `all-pairs` and `distinct`, each with what it asks of the record more. Assumes nothing.
+-- Rules that grow by one record: `all`, `all_pairs` and `distinct`, each with what it asks of the record more. Assumes nothing.
 use Prim.Native.Nat.{ℕ, zero, suc, ◌+◌, ◌-◌, ◌≤◌, ◌<◌}
 use mathlib.Core.{Bool.{Bool, true, false, not, ◌&&◌, ◌||◌, and-true, or-true}, List.{List, [], ◌∷◌, ◌++◌, map}, Path.{◌≡◌, refl, sym, ap, ◌∙◌, subst}}
 use native.{Mathlib.Numerals.add-one, Mathlib.Omega.arith, Mathlib.Decide.dec_lt}

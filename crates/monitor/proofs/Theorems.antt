@@ -2,7 +2,7 @@
 -- l is an image, v an event, t a timeline, b a buffer of events and out one for answers or lines, all of them any bytes; n is the id of an
 -- executable; l', b' and out' are what stands there after the call, r is its result.
 -- What the statements speak of: `step`, `run` (rules, specs/Step), `code` (rules, specs/Codes), `explanation` (explanations, specs/Why),
--- `lines_of`, `why-code` (reasons, specs/Lines), `timeline-code`, `timeline-events` (timeline, specs/Timeline), `in-turn` (timeline,
+-- `lines_of`, `why_code` (reasons, specs/Lines), `timeline_code`, `timeline_events` (timeline, specs/Timeline), `in_turn` (timeline,
 -- specs/Running), and here specs/Told.
 use Prim.Native.Nat.{ℕ, ◌+◌, ◌*◌, ◌/◌, ◌%◌, ◌≤◌, ◌<◌, min}
 use mathlib.Core.{Bool.true, List.{List, [], ◌++◌}, Logic.{◌≢◌, ◌↔◌}, Path.{◌≡◌, refl, sym, ap, ◌∙◌}}

@@ -36,7 +36,7 @@ zero_rest : (n : ℕ) (l : List ℕ) → n ≡ 0 → all_zero (n ∷ l) ≡ all_
 unfolding all_zero
 zero_rest n l h = sum_rest n _ h
 
--- what a loop keeps of `all-zero` of what is left, from number i on, and what it answers: w is what is asked
+-- what a loop keeps of `all_zero` of what is left, from number i on, and what it answers: w is what is asked
 module _ (l : List ℕ) (i : ℕ) (w : Bool) (inv : all_zero (drop i l) ≡ w) where
   pub zero_stops : i < length l → get_or l i 0 ≢ 0 → false ≡ w
   zero_stops h n = sym (ap all_zero (rest 0 l i h) ∙ zero_first (get_or l i 0) (drop (i + 1) l) n) ∙ inv

@@ -1,6 +1,6 @@
 -- THE THEOREMS about timelines. Each sentence of 02, item 6, with its statement; Clock holds the arguments. Assumes nothing.
--- l is an image and t a timeline, both any bytes. What the statements speak of: `timeline-code`, `timeline-events`, `timed` (specs/Timeline),
--- `in-turn`, `met`, `met-by-event` (specs/Running), `run`, `answers`, `code` (rules, specs/Step and Codes).
+-- l is an image and t a timeline, both any bytes. What the statements speak of: `timeline_code`, `timeline_events`, `timed` (specs/Timeline),
+-- `in_turn`, `met`, `met_by_event` (specs/Running), `run`, `answers`, `code` (rules, specs/Step and Codes).
 use Prim.Native.Nat.{ℕ, ◌≤◌}
 use mathlib.Core.{Bool.{true, false}, List.{List, [], ◌∷◌, ◌++◌}, Logic.{◌≢◌, ◌↔◌}, Path.{◌≡◌, ap}}
 use Rattle.records.specs.Layout.{event_bytes}
