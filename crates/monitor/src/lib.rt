@@ -30,8 +30,7 @@ fn pack(a: Answer) -> u64
 }
 
 // 0 where the image is accepted, and else the answer that any event on it gets: code 1, the broken rule and where. Any bytes.
-#[unsafe(no_mangle)]
-pub extern "C" fn monitor_open(image: &[u8]) -> u64
+pub fn monitor_open(image: &[u8]) -> u64
     ensures { result ≡ packed (opened image.now) }
 {
     let fault = opening::open(image);
@@ -39,8 +38,7 @@ pub extern "C" fn monitor_open(image: &[u8]) -> u64
 }
 
 // One event: the answer as a number, from the low byte up links, domain, code, rule and two bytes of offset, and the image after it. Any bytes.
-#[unsafe(no_mangle)]
-pub extern "C" fn monitor_step(image: &mut [u8], event: &[u8]) -> u64
+pub fn monitor_step(image: &mut [u8], event: &[u8]) -> u64
     ensures { Stepped image.old event.now result image.new }
 {
     let told = events::step(image, event);
@@ -125,8 +123,7 @@ fn refuse(answers: &mut [u8], n: usize, a: Answer)
 
 // Events one after the other, the last of which may be short, on an image that is opened once: six bytes for each
 // answer, as long as there is room, and the number of answers. Any bytes.
-#[unsafe(no_mangle)]
-pub extern "C" fn monitor_run(image: &mut [u8], events: &[u8], answers: &mut [u8]) -> usize
+pub fn monitor_run(image: &mut [u8], events: &[u8], answers: &mut [u8]) -> usize
     ensures { Ran image.old events.now answers.old result image.new answers.new }
 {
     let n = answered(events.len(), answers.len());
@@ -151,8 +148,7 @@ fn pack_why(w: Why) -> u64
 
 // Why an executable has its domain or has none: the answer as a number, from the low byte up two bytes of the number of lines, code, rule and
 // two bytes of offset, and in the buffer as many of the lines, three bytes each, as it has room for. Any bytes.
-#[unsafe(no_mangle)]
-pub extern "C" fn monitor_why(image: &[u8], id: u16, lines: &mut [u8]) -> u64
+pub fn monitor_why(image: &[u8], id: u16, lines: &mut [u8]) -> u64
     ensures { Asked image.now id lines.old result lines.new }
 {
     let told = reasons::explain(image, id, lines);
@@ -171,8 +167,7 @@ fn pack_timeline(u: Unrolled) -> u64
 
 // The events of a timeline for an image, with the clock events put in, as many whole ones as the buffer has room for: the answer as a number, from
 // the low byte up two bytes of the number of events, code, rule and two bytes of offset, as monitor_why has them. To be run by monitor_run. Any bytes.
-#[unsafe(no_mangle)]
-pub extern "C" fn monitor_timeline(image: &[u8], timeline: &[u8], events: &mut [u8]) -> u64
+pub fn monitor_timeline(image: &[u8], timeline: &[u8], events: &mut [u8]) -> u64
     ensures { UnrolledFor image.now timeline.now events.old result events.new }
 {
     let told = timeline::unroll(image, timeline, events);

@@ -21,14 +21,16 @@ unfolding delete_certificate effect
 settle_own-requires-clause-framed c =
     let m : About 6 (decode c.args.s.now) c.args.e c.in-On.slot = about 6 _ c.args.e tt (owned_formed _ _) c.delete_certificate.ensures c.in-On.is in
     let e = with_kind 6 c.args.e in
-    let own = delete_own _ (accepted_phone _ c.requires.accepted_image) c.args.e m.id (about_named m c.certificate-gone.ensures) in settle_framed _ e c.delete_certificate-in-On.ensures c.requires.accepted_image
+    let own = delete_own _ (accepted_phone _ c.requires.accepted_image) c.args.e m.id (about_named m c.certificate-gone.ensures) in
+    settle_framed _ e c.delete_certificate-in-On.ensures c.requires.accepted_image
 
 pub settle_own-requires-clause-s_value : goal.settle_own-requires-clause-s_value
 unfolding delete_certificate effect
 settle_own-requires-clause-s_value c =
     let m : About 6 (decode c.args.s.now) c.args.e c.in-On.slot = about 6 _ c.args.e tt (owned_formed _ _) c.delete_certificate.ensures c.in-On.is in
     let e = with_kind 6 c.args.e in
-    let own = delete_own _ (accepted_phone _ c.requires.accepted_image) c.args.e m.id (about_named m c.certificate-gone.ensures) in said_own _ e c.delete_certificate-in-On.ensures _ own
+    let own = delete_own _ (accepted_phone _ c.requires.accepted_image) c.args.e m.id (about_named m c.certificate-gone.ensures) in
+    said_own _ e c.delete_certificate-in-On.ensures _ own
 
 pub returns-in-Refused : goal.returns-in-Refused
 returns-in-Refused c = search (plan_handled, rules)

@@ -21,14 +21,16 @@ unfolding effect mark_invalid
 settle_own-requires-clause-framed c =
     let m : About 8 (decode c.args.s.now) c.args.e c.in-On.slot = about 8 _ c.args.e tt (owned_formed _ _) c.mark_invalid.ensures c.in-On.is in
     let e = with_kind 8 c.args.e in
-    let own = invalid_own _ (accepted_phone _ c.requires.accepted_image) c.args.e m.id (about_named m c.certificate-root.ensures) in settle_framed _ e c.mark_invalid-in-On.ensures c.requires.accepted_image
+    let own = invalid_own _ (accepted_phone _ c.requires.accepted_image) c.args.e m.id (about_named m c.certificate-root.ensures) in
+    settle_framed _ e c.mark_invalid-in-On.ensures c.requires.accepted_image
 
 pub settle_own-requires-clause-s_value : goal.settle_own-requires-clause-s_value
 unfolding effect mark_invalid
 settle_own-requires-clause-s_value c =
     let m : About 8 (decode c.args.s.now) c.args.e c.in-On.slot = about 8 _ c.args.e tt (owned_formed _ _) c.mark_invalid.ensures c.in-On.is in
     let e = with_kind 8 c.args.e in
-    let own = invalid_own _ (accepted_phone _ c.requires.accepted_image) c.args.e m.id (about_named m c.certificate-root.ensures) in said_own _ e c.mark_invalid-in-On.ensures _ own
+    let own = invalid_own _ (accepted_phone _ c.requires.accepted_image) c.args.e m.id (about_named m c.certificate-root.ensures) in
+    said_own _ e c.mark_invalid-in-On.ensures _ own
 
 pub returns-in-Refused : goal.returns-in-Refused
 returns-in-Refused c = search (plan_handled, rules)

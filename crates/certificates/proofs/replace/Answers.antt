@@ -21,14 +21,16 @@ unfolding effect replace
 settle_own-requires-clause-framed c =
     let m : About 16 (decode c.args.s.now) c.args.e c.in-On.slot = about 16 _ c.args.e tt (λ h. (replace_formed _ _ h).0) c.replace.ensures c.in-On.is in
     let e = with_kind 16 c.args.e in
-    let own = replace_own _ (accepted_phone _ c.requires.accepted_image) c.args.e m.id (about_named m c.certificate-root.ensures) in settle_framed _ e c.replace-in-On.ensures c.requires.accepted_image
+    let own = replace_own _ (accepted_phone _ c.requires.accepted_image) c.args.e m.id (about_named m c.certificate-root.ensures) in
+    settle_framed _ e c.replace-in-On.ensures c.requires.accepted_image
 
 pub settle_own-requires-clause-s_value : goal.settle_own-requires-clause-s_value
 unfolding effect replace
 settle_own-requires-clause-s_value c =
     let m : About 16 (decode c.args.s.now) c.args.e c.in-On.slot = about 16 _ c.args.e tt (λ h. (replace_formed _ _ h).0) c.replace.ensures c.in-On.is in
     let e = with_kind 16 c.args.e in
-    let own = replace_own _ (accepted_phone _ c.requires.accepted_image) c.args.e m.id (about_named m c.certificate-root.ensures) in said_own _ e c.replace-in-On.ensures _ own
+    let own = replace_own _ (accepted_phone _ c.requires.accepted_image) c.args.e m.id (about_named m c.certificate-root.ensures) in
+    said_own _ e c.replace-in-On.ensures _ own
 
 pub returns-in-Refused : goal.returns-in-Refused
 returns-in-Refused c = search (plan_handled, rules)

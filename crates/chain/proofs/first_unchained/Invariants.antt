@@ -6,7 +6,8 @@ use Rattle.rules.specs.{Words.all, ImageRules.{chained_fits}}
 use Rattle.chain.proofs.first_unchained.Given as goal
 
 abbrev pub invariant-loop-i : goal.invariant-loop-i
-invariant-loop-i l = (l.i ≤ l.slots) × (l.slots ≡ length (decode l.s).executables) × (all (chained_fits (decode l.s).trust) (take l.i (decode l.s).executables) ≡ true)
+invariant-loop-i l = (l.i ≤ l.slots) × (l.slots ≡ length (decode l.s).executables) ×
+    (all (chained_fits (decode l.s).trust) (take l.i (decode l.s).executables) ≡ true)
 
 abbrev pub decreases-loop-i : goal.decreases-loop-i
 decreases-loop-i l = l.slots - l.i

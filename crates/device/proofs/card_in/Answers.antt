@@ -10,7 +10,8 @@ returns-then-code-ne0 c = search handled_refused
 
 pub returns-then-not-has_marked_operator : goal.returns-then-not-has_marked_operator
 returns-then-not-has_marked_operator c =
-    put_in_only c.args.e c.requires.accepted_image (sym c.card_in-code.ensures ∙ c.if-code-ne0.false) c.has_marked_operator.ensures (ap not c.if-not-has_marked_operator.true) c.done.ensures
+    put_in_only c.args.e c.requires.accepted_image (sym c.card_in-code.ensures ∙ c.if-code-ne0.false) c.has_marked_operator.ensures
+    (ap not c.if-not-has_marked_operator.true) c.done.ensures
     c.card_only.ensures
 
 pub settle-requires-clause-framed : goal.settle-requires-clause-framed

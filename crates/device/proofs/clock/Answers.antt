@@ -20,4 +20,5 @@ settle_if-requires-clause-s_value c =
 
 pub returns : goal.returns
 returns c =
-    settle_ends (ticked c.args.e c.requires.accepted_image c.runs_out-broken.ensures c.tick.ensures) (sym c.clock-code.ensures ∙ c.if-code-ne0.false) c.settle_if.ensures
+    settle_ends (ticked c.args.e c.requires.accepted_image c.runs_out-broken.ensures c.tick.ensures)
+    (sym c.clock-code.ensures ∙ c.if-code-ne0.false) c.settle_if.ensures

@@ -12,8 +12,10 @@ returns-then-opened-eq0-clause-value c =
 
 pub returns-clause-got_after : goal.returns-clause-got_after
 returns-clause-got_after c =
-    let a = c.args in let all = said a.got.now a.at (opened_told a.opened c.if-opened-eq0.false) (c.put_told.ensures.got_after, c.put_told.ensures.value) in all.0
+    let a = c.args in let all = said a.got.now a.at (opened_told a.opened c.if-opened-eq0.false)
+    (c.put_told.ensures.got_after, c.put_told.ensures.value) in all.0
 
 pub returns-clause-value : goal.returns-clause-value
 returns-clause-value c =
-    let a = c.args in let all = said a.got.now a.at (opened_told a.opened c.if-opened-eq0.false) (c.put_told.ensures.got_after, c.put_told.ensures.value) in all.1
+    let a = c.args in let all = said a.got.now a.at (opened_told a.opened c.if-opened-eq0.false)
+    (c.put_told.ensures.got_after, c.put_told.ensures.value) in all.1

@@ -26,13 +26,15 @@ returns-then-told-opened-clause-value c =
 pub returns-then-told-ne65536-clause-got_after : goal.returns-then-told-ne65536-clause-got_after
 returns-then-told-ne65536-clause-got_after c =
     let a = c.args in
-    let parts = c.answer_of-a.ensures in let all = said a.got.now a.at (told_number a.opened a.n a.kind a.told parts c.if-told-eq0.false c.if-told-opened.false c.if-told-ne65536.true)
+    let parts = c.answer_of-a.ensures in let all = said a.got.now a.at
+    (told_number a.opened a.n a.kind a.told parts c.if-told-eq0.false c.if-told-opened.false c.if-told-ne65536.true)
     c.put_line-then-told-ne65536.ensures in all.0
 
 pub returns-then-told-ne65536-clause-value : goal.returns-then-told-ne65536-clause-value
 returns-then-told-ne65536-clause-value c =
     let a = c.args in
-    let parts = c.answer_of-a.ensures in let all = said a.got.now a.at (told_number a.opened a.n a.kind a.told parts c.if-told-eq0.false c.if-told-opened.false c.if-told-ne65536.true)
+    let parts = c.answer_of-a.ensures in let all = said a.got.now a.at
+    (told_number a.opened a.n a.kind a.told parts c.if-told-eq0.false c.if-told-opened.false c.if-told-ne65536.true)
     c.put_line-then-told-ne65536.ensures in all.1
 
 pub overflow_add-result : goal.overflow_add-result
@@ -41,11 +43,13 @@ overflow_add-result c = omega (arith, refusal_ends _ _ c.put_refusal.ensures.1)
 pub returns-clause-got_after : goal.returns-clause-got_after
 returns-clause-got_after c =
     let a = c.args in
-    let parts = c.answer_of-a.ensures in let all = said a.got.now a.at (told_refusal a.opened a.n a.kind a.told parts c.if-told-eq0.false c.if-told-opened.false c.if-told-ne65536.false)
+    let parts = c.answer_of-a.ensures in let all = said a.got.now a.at
+    (told_refusal a.opened a.n a.kind a.told parts c.if-told-eq0.false c.if-told-opened.false c.if-told-ne65536.false)
     (put_behind a.got.now a.at _ (omega arith) c.put_refusal.ensures) in all.0
 
 pub returns-clause-value : goal.returns-clause-value
 returns-clause-value c =
     let a = c.args in
-    let parts = c.answer_of-a.ensures in let all = said a.got.now a.at (told_refusal a.opened a.n a.kind a.told parts c.if-told-eq0.false c.if-told-opened.false c.if-told-ne65536.false)
+    let parts = c.answer_of-a.ensures in let all = said a.got.now a.at
+    (told_refusal a.opened a.n a.kind a.told parts c.if-told-eq0.false c.if-told-opened.false c.if-told-ne65536.false)
     (put_behind a.got.now a.at _ (omega arith) c.put_refusal.ensures) in all.1

@@ -121,4 +121,8 @@ returns-in-16 c =
 pub returns-in-0 : goal.returns-in-0
 returns-in-0 c =
     let i = c.kind-kind.ensures in
-    elim c.in-0-1.branch [ in-0-1 w ↦ kind_zero i w.in-0-1.keys17 c.refused-in-0.ensures | in_default-1 w ↦ no_such_kind i w.in_default-1.rest c.refused-in-0.ensures ]
+    elim c.in-0-1.branch [
+      | in-0-1 w ↦ kind_zero i w.in-0-1.keys17 c.refused-in-0.ensures
+      | in_default-1 w ↦ no_such_kind i w.in_default-1.rest
+          c.refused-in-0.ensures
+    ]

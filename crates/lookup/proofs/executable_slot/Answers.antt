@@ -19,14 +19,17 @@ pub returns-then-executable_has_id-2 : goal.returns-then-executable_has_id-2
 returns-then-executable_has_id-2 c =
     let i = c.loop-i.i in
     found_here _ _ no_executable (i + 1) (let v = c.loop-i in
-    place_next _ no_executable _ v.i v.invariant.2 (omega arith) (sym c.executable_has_id.ensures ∙ c.if-executable_has_id.false)) (omega arith) (sym c.executable_has_id-in-loop-i.ensures ∙ c.if-executable_has_id-2.true)
+    place_next _ no_executable _ v.i v.invariant.2 (omega arith) (sym c.executable_has_id.ensures ∙ c.if-executable_has_id.false)) (omega arith)
+    (sym c.executable_has_id-in-loop-i.ensures ∙ c.if-executable_has_id-2.true)
 
 pub returns-then-executable_has_id-3 : goal.returns-then-executable_has_id-3
 returns-then-executable_has_id-3 c =
     let i = c.loop-i.i in
     found_here _ _ no_executable (i + 2) (let i = c.loop-i.i in
     place_past _ no_executable _ (i + 1) (omega arith) (let v = c.loop-i in
-    place_next _ no_executable _ v.i v.invariant.2 (omega arith) (sym c.executable_has_id.ensures ∙ c.if-executable_has_id.false)) (omega arith) (sym c.executable_has_id-in-loop-i.ensures ∙ c.if-executable_has_id-2.false)) (omega arith) (sym c.executable_has_id-in-loop-i-2.ensures ∙ c.if-executable_has_id-3.true)
+    place_next _ no_executable _ v.i v.invariant.2 (omega arith) (sym c.executable_has_id.ensures ∙ c.if-executable_has_id.false)) (omega arith)
+    (sym c.executable_has_id-in-loop-i.ensures ∙ c.if-executable_has_id-2.false)) (omega arith)
+    (sym c.executable_has_id-in-loop-i-2.ensures ∙ c.if-executable_has_id-3.true)
 
 pub returns-then-executable_has_id-4 : goal.returns-then-executable_has_id-4
 returns-then-executable_has_id-4 c =
@@ -34,7 +37,10 @@ returns-then-executable_has_id-4 c =
     found_here _ _ no_executable (i + 3) (let i = c.loop-i.i in
     place_past _ no_executable _ (i + 2) (omega arith) (let i = c.loop-i.i in
     place_past _ no_executable _ (i + 1) (omega arith) (let v = c.loop-i in
-    place_next _ no_executable _ v.i v.invariant.2 (omega arith) (sym c.executable_has_id.ensures ∙ c.if-executable_has_id.false)) (omega arith) (sym c.executable_has_id-in-loop-i.ensures ∙ c.if-executable_has_id-2.false)) (omega arith) (sym c.executable_has_id-in-loop-i-2.ensures ∙ c.if-executable_has_id-3.false)) (omega arith) (sym c.executable_has_id-in-loop-i-3.ensures ∙ c.if-executable_has_id-4.true)
+    place_next _ no_executable _ v.i v.invariant.2 (omega arith) (sym c.executable_has_id.ensures ∙ c.if-executable_has_id.false)) (omega arith)
+    (sym c.executable_has_id-in-loop-i.ensures ∙ c.if-executable_has_id-2.false)) (omega arith)
+    (sym c.executable_has_id-in-loop-i-2.ensures ∙ c.if-executable_has_id-3.false)) (omega arith)
+    (sym c.executable_has_id-in-loop-i-3.ensures ∙ c.if-executable_has_id-4.true)
 
 pub loop-i-preserved : goal.loop-i-preserved
 loop-i-preserved c = (
@@ -44,7 +50,10 @@ loop-i-preserved c = (
       place_past _ no_executable _ (i + 3) (omega arith) (let i = c.loop-i.i in
       place_past _ no_executable _ (i + 2) (omega arith) (let i = c.loop-i.i in
       place_past _ no_executable _ (i + 1) (omega arith) (let v = c.loop-i in
-      place_next _ no_executable _ v.i v.invariant.2 (omega arith) (sym c.executable_has_id.ensures ∙ c.if-executable_has_id.false)) (omega arith) (sym c.executable_has_id-in-loop-i.ensures ∙ c.if-executable_has_id-2.false)) (omega arith) (sym c.executable_has_id-in-loop-i-2.ensures ∙ c.if-executable_has_id-3.false)) (omega arith) (sym c.executable_has_id-in-loop-i-3.ensures ∙ c.if-executable_has_id-4.false)),
+      place_next _ no_executable _ v.i v.invariant.2 (omega arith) (sym c.executable_has_id.ensures ∙ c.if-executable_has_id.false)) (omega arith)
+      (sym c.executable_has_id-in-loop-i.ensures ∙ c.if-executable_has_id-2.false)) (omega arith)
+      (sym c.executable_has_id-in-loop-i-2.ensures ∙ c.if-executable_has_id-3.false)) (omega arith)
+      (sym c.executable_has_id-in-loop-i-3.ensures ∙ c.if-executable_has_id-4.false)),
 )
 
 pub executable_from-requires-clause-from_in_bounds : goal.executable_from-requires-clause-from_in_bounds

@@ -15,8 +15,12 @@ returns-then-certificate_has_id c =
 
 pub loop-i-preserved : goal.loop-i-preserved
 loop-i-preserved c =
-    let v = c.loop-i in
-    (search rules, search rules, place_next _ no_certificate _ v.i v.invariant.2 (omega arith) (sym c.certificate_has_id.ensures ∙ c.if-certificate_has_id.false))
+    let v = c.loop-i in (
+      search rules,
+      search rules,
+      place_next _ no_certificate _ v.i v.invariant.2 (omega arith)
+          (sym c.certificate_has_id.ensures ∙ c.if-certificate_has_id.false),
+    )
 
 pub returns : goal.returns
 returns c = omega (arith, place_end _ no_certificate _ c.loop-i.i c.loop-i.invariant.2 (omega arith))

@@ -6,7 +6,8 @@ use Rattle.monitor.proofs.RunLaws.{Left}
 use Rattle.monitor.proofs.follow.Given as goal
 
 abbrev pub invariant-loop-i : goal.invariant-loop-i
-invariant-loop-i l = (length l.image ≡ length l.initial.image) × AcceptedImage l.image × Left l.initial.image l.events l.initial.answers l.n l.image l.answers l.i
+invariant-loop-i l = (length l.image ≡ length l.initial.image) × AcceptedImage l.image × Left l.initial.image l.events l.initial.answers l.n l.image
+    l.answers l.i
 
 abbrev pub decreases-loop-i : goal.decreases-loop-i
 decreases-loop-i l = l.n - l.i

@@ -41,7 +41,8 @@ returns-then-not-is_served c =
     skips _ _ _ (ne_eqb _ _ c.if-c-eq-RECOVERY.false)
     (skips _ _ _ (not_is c.is_present.ensures (ap not c.if-not-is_present.false))
     (skips _ _ _ (ne_eqb _ _ c.if-c-eq0.false) (skips _ _ _ (ne_eqb _ _ c.if-c-eq0-2.false)
-    (skips _ _ _ (not_is c.is_current.ensures (ap not c.if-not-is_current.false)) (takes _ _ _ (not_is c.is_served.ensures (ap not c.if-not-is_served.true)))))))
+    (skips _ _ _ (not_is c.is_current.ensures (ap not c.if-not-is_current.false))
+    (takes _ _ _ (not_is c.is_served.ensures (ap not c.if-not-is_served.true)))))))
 
 pub returns : goal.returns
 unfolding reason
@@ -49,4 +50,5 @@ returns c =
     skips _ _ _ (ne_eqb _ _ c.if-c-eq-RECOVERY.false)
     (skips _ _ _ (not_is c.is_present.ensures (ap not c.if-not-is_present.false))
     (skips _ _ _ (ne_eqb _ _ c.if-c-eq0.false) (skips _ _ _ (ne_eqb _ _ c.if-c-eq0-2.false)
-    (skips _ _ _ (not_is c.is_current.ensures (ap not c.if-not-is_current.false)) (skips _ _ _ (not_is c.is_served.ensures (ap not c.if-not-is_served.false)) ends)))))
+    (skips _ _ _ (not_is c.is_current.ensures (ap not c.if-not-is_current.false))
+    (skips _ _ _ (not_is c.is_served.ensures (ap not c.if-not-is_served.false)) ends)))))

@@ -26,7 +26,8 @@ loop-i-preserved c =
     let holder = c.lowest_holder-c in
     let nz = c.if-c-eq0.false in
     let told = c.tell in
-    let rest = rest_goes_on _ _ _ _ _ _ _ v.invariant.3 _ holder.ensures nz (omega arith) (search rules) c.requires.line_size_in_bounds asked.ensures told.ensures in
+    let rest = rest_goes_on _ _ _ _ _ _ _ v.invariant.3 _ holder.ensures nz (omega arith)
+    (search rules) c.requires.line_size_in_bounds asked.ensures told.ensures in
     (search rules, search rules, search rules, rest)
 
 pub shape_of-lines : goal.shape_of-lines

@@ -25,12 +25,14 @@ pub returns-clause-out_after : goal.returns-clause-out_after
 returns-clause-out_after c =
     let v = c.loop-i in
     let a = c.args in
-    let all : v.i ≡ a.n = omega arith in let all = subst (λ (k : ℕ). (v.out ≡ put a.out.now 0 (page 0 (lines_said a.lines.now k))) × (v.at ≡ length (page 0 (lines_said a.lines.now k)))) all
+    let all : v.i ≡ a.n = omega arith in let all = subst (λ (k : ℕ). (v.out ≡ put a.out.now 0 (page 0 (lines_said a.lines.now k))) ×
+    (v.at ≡ length (page 0 (lines_said a.lines.now k)))) all
     (v.invariant.3.0, omega (arith, v.invariant.3.1)) in all.0
 
 pub returns-clause-value : goal.returns-clause-value
 returns-clause-value c =
     let v = c.loop-i in
     let a = c.args in
-    let all : v.i ≡ a.n = omega arith in let all = subst (λ (k : ℕ). (v.out ≡ put a.out.now 0 (page 0 (lines_said a.lines.now k))) × (v.at ≡ length (page 0 (lines_said a.lines.now k)))) all
+    let all : v.i ≡ a.n = omega arith in let all = subst (λ (k : ℕ). (v.out ≡ put a.out.now 0 (page 0 (lines_said a.lines.now k))) ×
+    (v.at ≡ length (page 0 (lines_said a.lines.now k)))) all
     (v.invariant.3.0, omega (arith, v.invariant.3.1)) in all.1

@@ -14,7 +14,9 @@ may_act-requires c =
     omega (arith, ap (λ x. x.domain) c.certificate-c.ensures, c.requires.accepted_image.certificate_domains c.in-At.slot)
 
 pub returns-then-may_act-acts_for : goal.returns-then-may_act-acts_for
-returns-then-may_act-acts_for c = plan_refused _ _ (omega arith) (gives (next (ap not (certificate_found _ _ c.certificate_slot.ensures c.in-At.is)) (here (ap₂ (λ b d. not (b && d) || c.args.nobody) (sym (let a = c.args in
+returns-then-may_act-acts_for c = plan_refused _ _ (omega arith) (gives
+    (next (ap not (certificate_found _ _ c.certificate_slot.ensures c.in-At.is))
+    (here (ap₂ (λ b d. not (b && d) || c.args.nobody) (sym (let a = c.args in
     c.may_act.ensures ∙ ap (λ x. may_act a.kind x.domain a.e.actor) (let at = at_first (has_id _) _ c.certificate_slot.ensures c.in-At.is in
     certificate_here _ _ at c.certificate-c.ensures))) (sym (let a = c.args in
     c.acts_for.ensures ∙ ap (acts_for (with_kind a.kind a.e)) (let at = at_first (has_id _) _ c.certificate_slot.ensures c.in-At.is in
@@ -27,8 +29,10 @@ returns-in-Nowhere c =
 
 pub returns-else-may_act-acts_for : goal.returns-else-may_act-acts_for
 returns-else-may_act-acts_for c =
-    plan_on _ _ (at_first (has_id _) _ c.certificate_slot.ensures c.in-At.is) ((gives (next (ap not (certificate_found _ _ c.certificate_slot.ensures c.in-At.is)) (next (ap₂ (λ b d. not (b && d) || c.args.nobody) (sym (let a = c.args in
+    plan_on _ _ (at_first (has_id _) _ c.certificate_slot.ensures c.in-At.is)
+    (gives (next (ap not (certificate_found _ _ c.certificate_slot.ensures c.in-At.is))
+    (next (ap₂ (λ b d. not (b && d) || c.args.nobody) (sym (let a = c.args in
     c.may_act.ensures ∙ ap (λ x. may_act a.kind x.domain a.e.actor) (let at = at_first (has_id _) _ c.certificate_slot.ensures c.in-At.is in
     certificate_here _ _ at c.certificate-c.ensures))) (sym (let a = c.args in
     c.acts_for.ensures ∙ ap (acts_for (with_kind a.kind a.e)) (let at = at_first (has_id _) _ c.certificate_slot.ensures c.in-At.is in
-    certificate_here _ _ at c.certificate-c.ensures))) ∙ c.if-may_act-acts_for.false) none))))
+    certificate_here _ _ at c.certificate-c.ensures))) ∙ c.if-may_act-acts_for.false) none)))

@@ -22,10 +22,18 @@ judge_validity-told-requires-clause-t c =
     let is = c.certificate-c.ensures in (read_fits a.accepted_image a.present_at is, read_there a.present_at is)
 
 pub returns-then-told-ne0 : goal.returns-then-told-ne0
-returns-then-told-ne0 c = stands (validity_rows (decode c.args.s.now) (certificate_at (decode c.args.s.now) c.args.slot)) ((not (in_date (decode c.args.s.now).trust.seen.clock (certificate_at (decode c.args.s.now) c.args.slot)) ⇒ 18) ∷ []) (c.judge_validity-told.ensures ∙ ap (λ x. first (validity_rows (decode c.args.s.now) x)) c.certificate-c.ensures) c.if-told-ne0.true
+returns-then-told-ne0 c = stands (validity_rows (decode c.args.s.now) (certificate_at (decode c.args.s.now) c.args.slot))
+    ((not (in_date (decode c.args.s.now).trust.seen.clock (certificate_at (decode c.args.s.now) c.args.slot)) ⇒ 18) ∷ [])
+    (c.judge_validity-told.ensures ∙ ap (λ x. first (validity_rows (decode c.args.s.now) x)) c.certificate-c.ensures) c.if-told-ne0.true
 
 pub returns-then-not-dated : goal.returns-then-not-dated
-returns-then-not-dated c = ((gives (here (says (c.in_date-dated.ensures ∙ ap₂ in_date c.clock-clock.ensures c.certificate-c.ensures) (ap not c.if-not-dated.true)))) ∙ decides (validity_rows (decode c.args.s.now) (certificate_at (decode c.args.s.now) c.args.slot)) ((not (in_date (decode c.args.s.now).trust.seen.clock (certificate_at (decode c.args.s.now) c.args.slot)) ⇒ 18) ∷ []) tt (c.judge_validity-told.ensures ∙ ap (λ x. first (validity_rows (decode c.args.s.now) x)) c.certificate-c.ensures) c.if-told-ne0.false)
+returns-then-not-dated c = ((gives (here (says (c.in_date-dated.ensures ∙ ap₂ in_date c.clock-clock.ensures c.certificate-c.ensures)
+    (ap not c.if-not-dated.true)))) ∙ decides (validity_rows (decode c.args.s.now) (certificate_at (decode c.args.s.now) c.args.slot))
+    ((not (in_date (decode c.args.s.now).trust.seen.clock (certificate_at (decode c.args.s.now) c.args.slot)) ⇒ 18) ∷ []) tt
+    (c.judge_validity-told.ensures ∙ ap (λ x. first (validity_rows (decode c.args.s.now) x)) c.certificate-c.ensures) c.if-told-ne0.false)
 
 pub returns : goal.returns
-returns c = ((gives (next (says (c.in_date-dated.ensures ∙ ap₂ in_date c.clock-clock.ensures c.certificate-c.ensures) (ap not c.if-not-dated.false)) none)) ∙ decides (validity_rows (decode c.args.s.now) (certificate_at (decode c.args.s.now) c.args.slot)) ((not (in_date (decode c.args.s.now).trust.seen.clock (certificate_at (decode c.args.s.now) c.args.slot)) ⇒ 18) ∷ []) tt (c.judge_validity-told.ensures ∙ ap (λ x. first (validity_rows (decode c.args.s.now) x)) c.certificate-c.ensures) c.if-told-ne0.false)
+returns c = ((gives (next (says (c.in_date-dated.ensures ∙ ap₂ in_date c.clock-clock.ensures c.certificate-c.ensures)
+    (ap not c.if-not-dated.false)) none)) ∙ decides (validity_rows (decode c.args.s.now) (certificate_at (decode c.args.s.now) c.args.slot))
+    ((not (in_date (decode c.args.s.now).trust.seen.clock (certificate_at (decode c.args.s.now) c.args.slot)) ⇒ 18) ∷ []) tt
+    (c.judge_validity-told.ensures ∙ ap (λ x. first (validity_rows (decode c.args.s.now) x)) c.certificate-c.ensures) c.if-told-ne0.false)

@@ -31,27 +31,40 @@ pub returns-then-told-ne0 : goal.returns-then-told-ne0
 returns-then-told-ne0 c =
     (gives (next (let a = c.args in
     let at = ap (λ x. any (in_another a.e.key x.domain) (decode a.s.now).trust.certificates) c.certificate-c.ensures in
-    sym (c.key_elsewhere.ensures ∙ at) ∙ c.if-key_elsewhere.false) (rest (stands (validity_rows (decode c.args.s.now) (certificate_at (decode c.args.s.now) c.args.slot)) ((not (may_replace c.args.e (certificate_at (decode c.args.s.now) c.args.slot) c.args.r) ⇒ 17)
+    sym (c.key_elsewhere.ensures ∙ at) ∙ c.if-key_elsewhere.false) (rest
+    (stands (validity_rows (decode c.args.s.now) (certificate_at (decode c.args.s.now) c.args.slot))
+    ((not (may_replace c.args.e (certificate_at (decode c.args.s.now) c.args.slot) c.args.r) ⇒ 17)
     ∷ (ltb c.args.e.expiry (decode c.args.s.now).trust.seen.clock ⇒ 18)
     ∷ []) (c.judge_validity-told.ensures ∙ ap (λ x. first (validity_rows (decode c.args.s.now) x)) c.certificate-c.ensures) c.if-told-ne0.true))))
 
 pub returns-then-not-may_replace : goal.returns-then-not-may_replace
-returns-then-not-may_replace c = ((gives (next (let a = c.args in
+returns-then-not-may_replace c = (gives (next (let a = c.args in
     let at = ap (λ x. any (in_another a.e.key x.domain) (decode a.s.now).trust.certificates) c.certificate-c.ensures in
-    sym (c.key_elsewhere.ensures ∙ at) ∙ c.if-key_elsewhere.false) (rest ((gives (here (says (c.may_replace.ensures ∙ ap (λ x. may_replace c.args.e x c.args.r) c.certificate-c.ensures) (ap not c.if-not-may_replace.true)))) ∙ decides (validity_rows (decode c.args.s.now) (certificate_at (decode c.args.s.now) c.args.slot)) ((not (may_replace c.args.e (certificate_at (decode c.args.s.now) c.args.slot) c.args.r) ⇒ 17)
+    sym (c.key_elsewhere.ensures ∙ at) ∙ c.if-key_elsewhere.false) (rest
+    ((gives (here (says (c.may_replace.ensures ∙ ap (λ x. may_replace c.args.e x c.args.r) c.certificate-c.ensures)
+    (ap not c.if-not-may_replace.true)))) ∙ decides (validity_rows (decode c.args.s.now) (certificate_at (decode c.args.s.now) c.args.slot))
+    ((not (may_replace c.args.e (certificate_at (decode c.args.s.now) c.args.slot) c.args.r) ⇒ 17)
     ∷ (ltb c.args.e.expiry (decode c.args.s.now).trust.seen.clock ⇒ 18)
-    ∷ []) tt (c.judge_validity-told.ensures ∙ ap (λ x. first (validity_rows (decode c.args.s.now) x)) c.certificate-c.ensures) c.if-told-ne0.false)))))
+    ∷ []) tt (c.judge_validity-told.ensures ∙ ap (λ x. first (validity_rows (decode c.args.s.now) x)) c.certificate-c.ensures) c.if-told-ne0.false))))
 
 pub returns-then-e-clock : goal.returns-then-e-clock
-returns-then-e-clock c = (((gives (next (let a = c.args in
+returns-then-e-clock c = (gives (next (let a = c.args in
     let at = ap (λ x. any (in_another a.e.key x.domain) (decode a.s.now).trust.certificates) c.certificate-c.ensures in
-    sym (c.key_elsewhere.ensures ∙ at) ∙ c.if-key_elsewhere.false) (rest ((gives (next (says (c.may_replace.ensures ∙ ap (λ x. may_replace c.args.e x c.args.r) c.certificate-c.ensures) (ap not c.if-not-may_replace.false)) (here (says_below c.clock-clock.ensures c.if-e-clock.true)))) ∙ decides (validity_rows (decode c.args.s.now) (certificate_at (decode c.args.s.now) c.args.slot)) ((not (may_replace c.args.e (certificate_at (decode c.args.s.now) c.args.slot) c.args.r) ⇒ 17)
+    sym (c.key_elsewhere.ensures ∙ at) ∙ c.if-key_elsewhere.false) (rest
+    ((gives (next (says (c.may_replace.ensures ∙ ap (λ x. may_replace c.args.e x c.args.r) c.certificate-c.ensures)
+    (ap not c.if-not-may_replace.false)) (here (says_below c.clock-clock.ensures c.if-e-clock.true)))) ∙ decides
+    (validity_rows (decode c.args.s.now) (certificate_at (decode c.args.s.now) c.args.slot))
+    ((not (may_replace c.args.e (certificate_at (decode c.args.s.now) c.args.slot) c.args.r) ⇒ 17)
     ∷ (ltb c.args.e.expiry (decode c.args.s.now).trust.seen.clock ⇒ 18)
-    ∷ []) tt (c.judge_validity-told.ensures ∙ ap (λ x. first (validity_rows (decode c.args.s.now) x)) c.certificate-c.ensures) c.if-told-ne0.false))))))
+    ∷ []) tt (c.judge_validity-told.ensures ∙ ap (λ x. first (validity_rows (decode c.args.s.now) x)) c.certificate-c.ensures) c.if-told-ne0.false))))
 
 pub returns : goal.returns
-returns c = (((gives (next (let a = c.args in
+returns c = (gives (next (let a = c.args in
     let at = ap (λ x. any (in_another a.e.key x.domain) (decode a.s.now).trust.certificates) c.certificate-c.ensures in
-    sym (c.key_elsewhere.ensures ∙ at) ∙ c.if-key_elsewhere.false) (rest ((gives (next (says (c.may_replace.ensures ∙ ap (λ x. may_replace c.args.e x c.args.r) c.certificate-c.ensures) (ap not c.if-not-may_replace.false)) (next (says_not_below c.clock-clock.ensures c.if-e-clock.false) none))) ∙ decides (validity_rows (decode c.args.s.now) (certificate_at (decode c.args.s.now) c.args.slot)) ((not (may_replace c.args.e (certificate_at (decode c.args.s.now) c.args.slot) c.args.r) ⇒ 17)
+    sym (c.key_elsewhere.ensures ∙ at) ∙ c.if-key_elsewhere.false) (rest
+    ((gives (next (says (c.may_replace.ensures ∙ ap (λ x. may_replace c.args.e x c.args.r) c.certificate-c.ensures)
+    (ap not c.if-not-may_replace.false)) (next (says_not_below c.clock-clock.ensures c.if-e-clock.false) none))) ∙ decides
+    (validity_rows (decode c.args.s.now) (certificate_at (decode c.args.s.now) c.args.slot))
+    ((not (may_replace c.args.e (certificate_at (decode c.args.s.now) c.args.slot) c.args.r) ⇒ 17)
     ∷ (ltb c.args.e.expiry (decode c.args.s.now).trust.seen.clock ⇒ 18)
-    ∷ []) tt (c.judge_validity-told.ensures ∙ ap (λ x. first (validity_rows (decode c.args.s.now) x)) c.certificate-c.ensures) c.if-told-ne0.false))))))
+    ∷ []) tt (c.judge_validity-told.ensures ∙ ap (λ x. first (validity_rows (decode c.args.s.now) x)) c.certificate-c.ensures) c.if-told-ne0.false))))

@@ -31,7 +31,8 @@ returns-then-certificate-ne-ROOT c =
       answers = c.owned_form.ensures _;
       right = (ap not c.if-not-owned_form.false);
       rows = (then_present 8 false _ c.args.e c.allowed_on.ensures c.if_present.ensures);
-    }) c.in-On.is (λ z. omega (arith, z)) ((gives (here (ap not (ne_eqb _ 0 c.if-certificate-ne-ROOT.true)))) ∙ ap (λ x. first (root_row x)) (row_named 8 false _ c.args.e (then_present 8 false _ c.args.e c.allowed_on.ensures c.if_present.ensures) c.in-On.is c.certificate.ensures))
+    }) c.in-On.is (λ z. omega (arith, z)) ((gives (here (ap not (ne_eqb _ 0 c.if-certificate-ne-ROOT.true)))) ∙ ap (λ x. first (root_row x))
+    (row_named 8 false _ c.args.e (then_present 8 false _ c.args.e c.allowed_on.ensures c.if_present.ensures) c.in-On.is c.certificate.ensures))
 
 pub returns-in-Refused : goal.returns-in-Refused
 returns-in-Refused c = row_refuses (record {
@@ -50,4 +51,5 @@ returns-else-certificate-ne-ROOT c =
       answers = c.owned_form.ensures _;
       right = (ap not c.if-not-owned_form.false);
       rows = (then_present 8 false _ c.args.e c.allowed_on.ensures c.if_present.ensures);
-    }) c.in-On.is ((gives (next (ap not (eq-eqb _ 0 c.if-certificate-ne-ROOT.false)) none)) ∙ ap (λ x. first (root_row x)) (row_named 8 false _ c.args.e (then_present 8 false _ c.args.e c.allowed_on.ensures c.if_present.ensures) c.in-On.is c.certificate.ensures))
+    }) c.in-On.is ((gives (next (ap not (eq-eqb _ 0 c.if-certificate-ne-ROOT.false)) none)) ∙ ap (λ x. first (root_row x))
+    (row_named 8 false _ c.args.e (then_present 8 false _ c.args.e c.allowed_on.ensures c.if_present.ensures) c.in-On.is c.certificate.ensures))

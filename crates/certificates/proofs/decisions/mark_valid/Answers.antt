@@ -33,7 +33,8 @@ returns-then-told-ne0 c =
       answers = c.owned_form.ensures _;
       right = (ap not c.if-not-owned_form.false);
       rows = (then_present 7 false _ c.args.e c.allowed_on.ensures c.if_present.ensures);
-    }) c.in-On.is c.if-told-ne0.true (c.judge_marking-told.ensures ∙ ap (λ x. first (marking_rows (decode c.args.s.now) x)) (row_named 7 false _ c.args.e (then_present 7 false _ c.args.e c.allowed_on.ensures c.if_present.ensures) c.in-On.is refl))
+    }) c.in-On.is c.if-told-ne0.true (c.judge_marking-told.ensures ∙ ap (λ x. first (marking_rows (decode c.args.s.now) x))
+    (row_named 7 false _ c.args.e (then_present 7 false _ c.args.e c.allowed_on.ensures c.if_present.ensures) c.in-On.is refl))
 
 pub returns-in-Refused : goal.returns-in-Refused
 returns-in-Refused c = row_refuses (record {
@@ -52,4 +53,5 @@ returns-else-told-ne0 c =
       answers = c.owned_form.ensures _;
       right = (ap not c.if-not-owned_form.false);
       rows = (then_present 7 false _ c.args.e c.allowed_on.ensures c.if_present.ensures);
-    }) c.in-On.is ((sym c.if-told-ne0.false ∙ c.judge_marking-told.ensures) ∙ ap (λ x. first (marking_rows (decode c.args.s.now) x)) (row_named 7 false _ c.args.e (then_present 7 false _ c.args.e c.allowed_on.ensures c.if_present.ensures) c.in-On.is refl))
+    }) c.in-On.is ((sym c.if-told-ne0.false ∙ c.judge_marking-told.ensures) ∙ ap (λ x. first (marking_rows (decode c.args.s.now) x))
+    (row_named 7 false _ c.args.e (then_present 7 false _ c.args.e c.allowed_on.ensures c.if_present.ensures) c.in-On.is refl))

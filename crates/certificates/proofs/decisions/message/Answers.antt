@@ -9,7 +9,11 @@ use mathlib.Core.Path.{ap}
 use Rattle.certificates.proofs.decisions.message.Goals as goal
 
 pub returns-then-not-message_form : goal.returns-then-not-message_form
-returns-then-not-message_form c = ((message_told _ _ (omega arith) (here (says (c.message_form.ensures _) (ap not c.if-not-message_form.true)))), λ z. omega arith)
+returns-then-not-message_form c = (
+  (message_told _ _ (omega arith) (here
+      (says (c.message_form.ensures _) (ap not c.if-not-message_form.true)))),
+  λ z. omega arith,
+)
 
 pub judge_listed-told-requires-clause-framed : goal.judge_listed-told-requires-clause-framed
 judge_listed-told-requires-clause-framed c = c.requires.accepted_image.framed
@@ -21,14 +25,20 @@ judge_listed-told-requires-clause-fourth_bound c =
 
 pub returns-then-told-eq3 : goal.returns-then-told-eq3
 returns-then-told-eq3 c = (
-  ((message_told _ _ (omega arith) (next (says (c.message_form.ensures _) (ap not c.if-not-message_form.false)) (here (told_unknown (any (λ n. not (certificate_known (decode c.args.s.now) n)) (listed c.args.e)) (any (λ n. not (third_party_root (certificate_named (decode c.args.s.now) n))) (listed c.args.e)) c.judge_listed-told.ensures c.if-told-eq3.true))))),
+  (message_told _ _ (omega arith) (next (says (c.message_form.ensures _) (ap not c.if-not-message_form.false))
+      (here (told_unknown (any (λ n. not (certificate_known (decode c.args.s.now) n)) (listed c.args.e))
+      (any (λ n. not (third_party_root (certificate_named (decode c.args.s.now) n)))
+      (listed c.args.e)) c.judge_listed-told.ensures c.if-told-eq3.true)))),
   λ z. (let a = c.args in
       message_listed (decode a.s.now) a.e (says (c.message_form.ensures (decode a.s.now)) (ap not c.if-not-message_form.false))),
 )
 
 pub returns-then-not-may_act : goal.returns-then-not-may_act
 returns-then-not-may_act c = (
-  (((message_told _ _ (omega arith) (next (says (c.message_form.ensures _) (ap not c.if-not-message_form.false)) (next (told_known (any (λ n. not (certificate_known (decode c.args.s.now) n)) (listed c.args.e)) (any (λ n. not (third_party_root (certificate_named (decode c.args.s.now) n))) (listed c.args.e)) c.judge_listed-told.ensures c.if-told-eq3.false) (here (says c.may_act.ensures (ap not c.if-not-may_act.true)))))))),
+  (message_told _ _ (omega arith) (next (says (c.message_form.ensures _) (ap not c.if-not-message_form.false))
+      (next (told_known (any (λ n. not (certificate_known (decode c.args.s.now) n)) (listed c.args.e))
+      (any (λ n. not (third_party_root (certificate_named (decode c.args.s.now) n))) (listed c.args.e)) c.judge_listed-told.ensures c.if-told-eq3.false)
+      (here (says c.may_act.ensures (ap not c.if-not-may_act.true)))))),
   λ z. (let a = c.args in
       message_listed (decode a.s.now) a.e (says (c.message_form.ensures (decode a.s.now)) (ap not c.if-not-message_form.false))),
 )
@@ -36,7 +46,15 @@ returns-then-not-may_act c = (
 pub returns : goal.returns
 unfolding first
 returns c = (
-  ((((message_told _ _ (omega arith) (next (says (c.message_form.ensures _) (ap not c.if-not-message_form.false)) (next (told_known (any (λ n. not (certificate_known (decode c.args.s.now) n)) (listed c.args.e)) (any (λ n. not (third_party_root (certificate_named (decode c.args.s.now) n))) (listed c.args.e)) c.judge_listed-told.ensures c.if-told-eq3.false) (next (says c.may_act.ensures (ap not c.if-not-may_act.false)) (rest (told_other (any (λ n. not (certificate_known (decode c.args.s.now) n)) (listed c.args.e)) (any (λ n. not (third_party_root (certificate_named (decode c.args.s.now) n))) (listed c.args.e)) c.judge_listed-told.ensures (told_known (any (λ n. not (certificate_known (decode c.args.s.now) n)) (listed c.args.e)) (any (λ n. not (third_party_root (certificate_named (decode c.args.s.now) n))) (listed c.args.e)) c.judge_listed-told.ensures c.if-told-eq3.false)))))))))),
+  (message_told _ _ (omega arith) (next (says (c.message_form.ensures _) (ap not c.if-not-message_form.false))
+      (next (told_known (any (λ n. not (certificate_known (decode c.args.s.now) n)) (listed c.args.e))
+      (any (λ n. not (third_party_root (certificate_named (decode c.args.s.now) n))) (listed c.args.e)) c.judge_listed-told.ensures c.if-told-eq3.false)
+      (next (says c.may_act.ensures (ap not c.if-not-may_act.false)) (rest
+      (told_other (any (λ n. not (certificate_known (decode c.args.s.now) n)) (listed c.args.e))
+      (any (λ n. not (third_party_root (certificate_named (decode c.args.s.now) n))) (listed c.args.e)) c.judge_listed-told.ensures
+      (told_known (any (λ n. not (certificate_known (decode c.args.s.now) n)) (listed c.args.e))
+      (any (λ n. not (third_party_root (certificate_named (decode c.args.s.now) n)))
+      (listed c.args.e)) c.judge_listed-told.ensures c.if-told-eq3.false))))))),
   λ z. (let a = c.args in
       message_listed (decode a.s.now) a.e (says (c.message_form.ensures (decode a.s.now)) (ap not c.if-not-message_form.false))),
 )

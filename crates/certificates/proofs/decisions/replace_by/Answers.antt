@@ -19,16 +19,29 @@ judge_replacing-told-requires-clause-accepted_image c = c.requires.accepted_imag
 
 pub judge_replacing-told-requires-clause-present_at : goal.judge_replacing-told-requires-clause-present_at
 judge_replacing-told-requires-clause-present_at c =
-    row_present 16 (eqb c.args.r.domain 3) (decode c.args.s.now) c.args.e (then_present 16 (eqb c.args.r.domain 3) _ c.args.e c.allowed_on.ensures c.if_present.ensures) c.in-On.is
+    row_present 16 (eqb c.args.r.domain 3) (decode c.args.s.now) c.args.e
+    (then_present 16 (eqb c.args.r.domain 3) _ c.args.e c.allowed_on.ensures c.if_present.ensures) c.in-On.is
 
 pub returns-then-told-ne0 : goal.returns-then-told-ne0
 returns-then-told-ne0 c =
-    refused_next (certificate_rows 16 (eqb c.args.r.domain 3) (decode c.args.s.now) c.args.e) _ (first_place (has_id c.args.e.id) (decode c.args.s.now).trust.certificates) (then_present 16 (eqb c.args.r.domain 3) _ c.args.e c.allowed_on.ensures c.if_present.ensures) tt c.in-On.is c.if-told-ne0.true (c.judge_replacing-told.ensures ∙ ap (λ x. first (replacing_rows (decode c.args.s.now) c.args.e x c.args.r)) (row_named 16 (eqb c.args.r.domain 3) (decode c.args.s.now) c.args.e (then_present 16 (eqb c.args.r.domain 3) _ c.args.e c.allowed_on.ensures c.if_present.ensures) c.in-On.is refl))
+    refused_next (certificate_rows 16 (eqb c.args.r.domain 3) (decode c.args.s.now) c.args.e) _
+    (first_place (has_id c.args.e.id) (decode c.args.s.now).trust.certificates)
+    (then_present 16 (eqb c.args.r.domain 3) _ c.args.e c.allowed_on.ensures c.if_present.ensures) tt c.in-On.is c.if-told-ne0.true
+    (c.judge_replacing-told.ensures ∙ ap (λ x. first (replacing_rows (decode c.args.s.now) c.args.e x c.args.r))
+    (row_named 16 (eqb c.args.r.domain 3) (decode c.args.s.now) c.args.e
+    (then_present 16 (eqb c.args.r.domain 3) _ c.args.e c.allowed_on.ensures c.if_present.ensures) c.in-On.is refl))
 
 pub returns-in-Refused : goal.returns-in-Refused
 returns-in-Refused c =
-    refused_first (certificate_rows 16 (eqb c.args.r.domain 3) (decode c.args.s.now) c.args.e) _ (first_place (has_id c.args.e.id) (decode c.args.s.now).trust.certificates) (then_present 16 (eqb c.args.r.domain 3) _ c.args.e c.allowed_on.ensures c.if_present.ensures) c.in-Refused.is
+    refused_first (certificate_rows 16 (eqb c.args.r.domain 3) (decode c.args.s.now) c.args.e) _
+    (first_place (has_id c.args.e.id) (decode c.args.s.now).trust.certificates)
+    (then_present 16 (eqb c.args.r.domain 3) _ c.args.e c.allowed_on.ensures c.if_present.ensures) c.in-Refused.is
 
 pub returns-else-told-ne0 : goal.returns-else-told-ne0
 returns-else-told-ne0 c =
-    on_next (certificate_rows 16 (eqb c.args.r.domain 3) (decode c.args.s.now) c.args.e) _ (first_place (has_id c.args.e.id) (decode c.args.s.now).trust.certificates) (then_present 16 (eqb c.args.r.domain 3) _ c.args.e c.allowed_on.ensures c.if_present.ensures) tt c.in-On.is ((sym c.if-told-ne0.false ∙ c.judge_replacing-told.ensures) ∙ ap (λ x. first (replacing_rows (decode c.args.s.now) c.args.e x c.args.r)) (row_named 16 (eqb c.args.r.domain 3) (decode c.args.s.now) c.args.e (then_present 16 (eqb c.args.r.domain 3) _ c.args.e c.allowed_on.ensures c.if_present.ensures) c.in-On.is refl))
+    on_next (certificate_rows 16 (eqb c.args.r.domain 3) (decode c.args.s.now) c.args.e) _
+    (first_place (has_id c.args.e.id) (decode c.args.s.now).trust.certificates)
+    (then_present 16 (eqb c.args.r.domain 3) _ c.args.e c.allowed_on.ensures c.if_present.ensures) tt c.in-On.is
+    ((sym c.if-told-ne0.false ∙ c.judge_replacing-told.ensures) ∙ ap (λ x. first (replacing_rows (decode c.args.s.now) c.args.e x c.args.r))
+    (row_named 16 (eqb c.args.r.domain 3) (decode c.args.s.now) c.args.e
+    (then_present 16 (eqb c.args.r.domain 3) _ c.args.e c.allowed_on.ensures c.if_present.ensures) c.in-On.is refl))

@@ -8,20 +8,24 @@ use Rattle.device.proofs.decisions.card_out.Goals as goal
 
 pub returns-then-not-e-card_form : goal.returns-then-not-e-card_form
 returns-then-not-e-card_form c =
-    let fits : (eqb c.args.e.second 0 && c.card_form.result) ≡ (eqb c.args.e.second 0 && (card_form (decode c.args.s.now) c.args.e)) = ap ((λ b. eqb c.args.e.second 0 && b)) (c.card_form.ensures (decode c.args.s.now)) in
+    let fits : (eqb c.args.e.second 0 && c.card_form.result) ≡ (eqb c.args.e.second 0 && (card_form (decode c.args.s.now) c.args.e)) = ap
+    (λ b. eqb c.args.e.second 0 && b) (c.card_form.ensures (decode c.args.s.now)) in
     search (card_out_told, here, says, fits)
 
 pub returns-then-not-may_act : goal.returns-then-not-may_act
 returns-then-not-may_act c =
-    let fits : (eqb c.args.e.second 0 && c.card_form.result) ≡ (eqb c.args.e.second 0 && (card_form (decode c.args.s.now) c.args.e)) = ap ((λ b. eqb c.args.e.second 0 && b)) (c.card_form.ensures (decode c.args.s.now)) in
+    let fits : (eqb c.args.e.second 0 && c.card_form.result) ≡ (eqb c.args.e.second 0 && (card_form (decode c.args.s.now) c.args.e)) = ap
+    (λ b. eqb c.args.e.second 0 && b) (c.card_form.ensures (decode c.args.s.now)) in
     search (card_out_told, here, next, says, fits)
 
 pub returns-then-card_present-eq0 : goal.returns-then-card_present-eq0
 returns-then-card_present-eq0 c =
-    let fits : (eqb c.args.e.second 0 && c.card_form.result) ≡ (eqb c.args.e.second 0 && (card_form (decode c.args.s.now) c.args.e)) = ap ((λ b. eqb c.args.e.second 0 && b)) (c.card_form.ensures (decode c.args.s.now)) in
+    let fits : (eqb c.args.e.second 0 && c.card_form.result) ≡ (eqb c.args.e.second 0 && (card_form (decode c.args.s.now) c.args.e)) = ap
+    (λ b. eqb c.args.e.second 0 && b) (c.card_form.ensures (decode c.args.s.now)) in
     search (card_out_told, here, next, says, says_zero, fits)
 
 pub returns : goal.returns
 returns c =
-    let fits : (eqb c.args.e.second 0 && c.card_form.result) ≡ (eqb c.args.e.second 0 && (card_form (decode c.args.s.now) c.args.e)) = ap ((λ b. eqb c.args.e.second 0 && b)) (c.card_form.ensures (decode c.args.s.now)) in
+    let fits : (eqb c.args.e.second 0 && c.card_form.result) ≡ (eqb c.args.e.second 0 && (card_form (decode c.args.s.now) c.args.e)) = ap
+    (λ b. eqb c.args.e.second 0 && b) (c.card_form.ensures (decode c.args.s.now)) in
     search (card_out_told, next, none, says, says_non_zero, fits)

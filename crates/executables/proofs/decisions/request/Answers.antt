@@ -8,7 +8,8 @@ use mathlib.Core.Bool.{not}
 use Rattle.executables.proofs.decisions.request.Goals as goal
 
 pub returns-then-not-action_form : goal.returns-then-not-action_form
-returns-then-not-action_form c = unformed _ _ _ _ (request_told _ _ (omega arith) refl) (c.action_form.ensures _ c.action_count.ensures.0) (ap not c.if-not-action_form.true)
+returns-then-not-action_form c = unformed _ _ _ _ (request_told _ _ (omega arith) refl) (c.action_form.ensures _ c.action_count.ensures.0)
+    (ap not c.if-not-action_form.true)
 
 pub executable-requires-clause-framed : goal.executable-requires-clause-framed
 executable-requires-clause-framed c = c.requires.accepted_image.framed

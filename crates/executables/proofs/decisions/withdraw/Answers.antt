@@ -7,7 +7,9 @@ use mathlib.Core.Path.{ap}
 use Rattle.executables.proofs.decisions.withdraw.Goals as goal
 
 pub returns-then-not-action_form : goal.returns-then-not-action_form
-returns-then-not-action_form c = unformed _ _ _ _ (permit_told _ _ (omega arith) false) (c.action_form.ensures _ c.action_count.ensures.0) (ap not c.if-not-action_form.true)
+returns-then-not-action_form c = unformed _ _ _ _ (permit_told _ _ (omega arith) false) (c.action_form.ensures _ c.action_count.ensures.0)
+    (ap not c.if-not-action_form.true)
 
 pub returns : goal.returns
-returns c = formed _ _ _ _ (permit_told _ _ (omega arith) false) (c.action_form.ensures _ c.action_count.ensures.0) (ap not c.if-not-action_form.false) c.on_executable.ensures
+returns c = formed _ _ _ _ (permit_told _ _ (omega arith) false) (c.action_form.ensures _ c.action_count.ensures.0)
+    (ap not c.if-not-action_form.false) c.on_executable.ensures

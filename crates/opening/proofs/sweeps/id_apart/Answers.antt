@@ -28,7 +28,8 @@ loop-j-preserved c =
       v.invariant.1,
       v.invariant.2,
       below_goes_on _ no_certificate _ v.j {b = not has.result} v.invariant.0 v.invariant.3 (omega arith) (omega arith) refl
-          (not_same _ _ (λ z. v.invariant.2 (v.invariant.1 ∙ z)) (has.ensures ∙ ap (eqb _) v.invariant.1)) (ap (λ b. not (not b)) c.if-certificate_has_id.false),
+          (not_same _ _ (λ z. v.invariant.2 (v.invariant.1 ∙ z)) (has.ensures ∙ ap (eqb _) v.invariant.1))
+          (ap (λ b. not (not b)) c.if-certificate_has_id.false),
     )
 
 pub returns : goal.returns
