@@ -1,7 +1,7 @@
 /*
  * Egshurmal: the monitor of a simulated MExE phone.
  *
- * `rt staticlib monitor` proves the library and writes it to
+ * `./run library` proves the library and writes it to
  * target/staticlib/libmonitor.a, for programs on x86-64:
  *
  *     cc -Ibindings simulator.c target/staticlib/libmonitor.a

@@ -1,6 +1,6 @@
 //! Egshurmal: the monitor of a simulated MExE phone, for Rust on x86-64.
 //!
-//! `rt staticlib monitor` proves the library and writes it to
+//! `./run library` proves the library and writes it to
 //! `target/staticlib/libmonitor.a`. A program that has this file as a module is
 //! linked with `-L native=target/staticlib`; `bindings/examples/lesson.rs` is such a
 //! program, and `docs/EMBEDDING.md` goes through the first hour. It is Rust of the

@@ -2,7 +2,7 @@
  * Runs a lesson, an image and then events, and asks why an application of it is
  * trusted or not at the end. From the top of the repository, on x86-64:
  *
- *     rt staticlib monitor
+ *     ./run library
  *     cc -Ibindings bindings/examples/lesson.c target/staticlib/libmonitor.a -o target/lesson && target/lesson lessons/worked-run.in 1
  */
 #include <errno.h>

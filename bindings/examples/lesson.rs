@@ -1,7 +1,7 @@
 //! Runs a lesson, an image and then events, and asks why an application of it is trusted or not at
 //! the end. From the top of the repository, on x86-64:
 //!
-//!     rt staticlib monitor
+//!     ./run library
 //!     rustc --edition 2021 -O -L native=target/staticlib bindings/examples/lesson.rs -o target/lesson && target/lesson lessons/worked-run.in 1
 
 #[path = "../monitor.rs"]

@@ -3,7 +3,7 @@
  * out with the clock events put in, and run. From the top of the repository, on
  * x86-64:
  *
- *     rt staticlib monitor
+ *     ./run library
  *     cc -Ibindings bindings/examples/timed.c target/staticlib/libmonitor.a -o target/timed && target/timed lessons/timed-lesson.in
  */
 #include <errno.h>

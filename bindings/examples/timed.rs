@@ -1,7 +1,7 @@
 //! Plays a timed lesson, an image and then a timeline: its events are written out with the clock
 //! events put in, and run. From the top of the repository, on x86-64:
 //!
-//!     rt staticlib monitor
+//!     ./run library
 //!     rustc --edition 2021 -O -L native=target/staticlib bindings/examples/timed.rs -o target/timed && target/timed lessons/timed-lesson.in
 
 #[path = "../monitor.rs"]
