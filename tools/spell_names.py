@@ -10,8 +10,9 @@ import os
 import re
 import sys
 
-# A fact that would otherwise have the name of a type of src/.
+# A fact that would otherwise have the name of a type of src/, and lemmas named after a word of the library that has another name now.
 APART = {"Good-by-domain": "IsGoodByDomain"}
+APART.update({f"getD-put-{w}": f"get_or_put_{w}" for w in ("in", "before", "after")})
 TOKEN = re.compile(r"[^\s(){}\[\].,;⌜⌝«»\"`|]+")
 DECLARED = re.compile(r"^(\s*)((?:pub |abbrev |unfoldable )*)(record |data |module )?([^\s:(){}.,;]+)(?=[\s:])")
 LIBRARY = ("mathlib.", "native.", "lib.", "Prim.", "borrow.", "denote.", "Rattle.std.", "Rattle.core.", "Rattle.io.", "Rattle.libc.", "Rattle.os.", "sem.", "kit.")

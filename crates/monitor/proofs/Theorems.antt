@@ -9,7 +9,7 @@ use mathlib.Core.{Bool.true, List.{List, [], ◌++◌}, Logic.{◌≢◌, ◌↔
 use native.Mathlib.Omega.{arith}
 use lib.ListN.{length, get_or, take, drop}
 use Rattle.octets.specs.Octets.{bytes, put}
-use Rattle.octets.proofs.ByteLaws.{getD_put_after}
+use Rattle.octets.proofs.ByteLaws.{get_or_put_after}
 use Rattle.records.specs.{Sizes.event_size, Phone.{decode, joined}}
 use Rattle.records.proofs.Joined.{length_joined}
 use Rattle.rules.specs.{declared.Answer.Answer, ImageRules.{accepted, «open»}, Faults.{fault, fault_offset}, Codes.code}
@@ -114,7 +114,7 @@ module _ (l b out : List ℕ) (r : ℕ) (l' out' : List ℕ) (s : Ran l b out r 
       let c : r ≡ answered (length b) (length out) = s.count in
       let m : answered (length b) (length out) * answer_size ≤ length out = answered_room (length b) (length out) in
       ap (λ (o : List ℕ). get_or o k 0) s.followed.told
-      ∙ getD_put_after out 0 (joined answer_bytes (answers l (events_of b r))) k (omega arith) (omega arith)
+      ∙ get_or_put_after out 0 (joined answer_bytes (answers l (events_of b r))) k (omega arith) (omega arith)
 
 -- "It stops where the events end or the answers have no room for six bytes more": there is room for every answer, there are no more of them than events,
 module _ (n m : ℕ) where

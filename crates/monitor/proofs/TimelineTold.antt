@@ -4,7 +4,7 @@ use mathlib.Core.{Bool.{Bool, true, false}, List.{List, [], ◌∷◌, ◌++◌,
 use native.{Mathlib.Nat.zero-mul, Mathlib.Omega.arith}
 use lib.{ListN.{length, get_or, take, drop, length-take}, Seq.{take_all, take_at, drop_at, get_or-take, drop-drop}}
 use Rattle.octets.specs.Octets.{put}
-use Rattle.octets.proofs.ByteLaws.{getD_put_after}
+use Rattle.octets.proofs.ByteLaws.{get_or_put_after}
 use Rattle.records.specs.{Sizes.event_size, Phone.joined}
 use Rattle.rules.specs.{declared.Answer.Answer, ImageRules.{accepted, «open»}, Faults.{fault, fault_offset}, Step.{opened, run, answers}}
 use Rattle.laws.proofs.Where.{rule_known, offset_small}
@@ -96,7 +96,7 @@ module _ (b : List ℕ) (vs : List (List ℕ)) (f : Whole vs) where
       let few = length-take (room b) vs in
       let size = length_whole some (whole_take (room b) vs f) in
       let within = placed_within b vs f in
-      getD_put_after b 0 (joined (λ v. v) some) k (omega arith) (omega arith)
+      get_or_put_after b 0 (joined (λ v. v) some) k (omega arith) (omega arith)
 
   -- with room for all of them they are the first bytes of the buffer
   pub all_placed : length vs * event_size ≤ length b → take (length vs * event_size) (with_events b vs) ≡ joined (λ v. v) vs

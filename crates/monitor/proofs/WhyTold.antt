@@ -5,7 +5,7 @@ use native.{Mathlib.Nat.{add-zero, zero-add}, Mathlib.Omega.arith}
 use borrow.Author.Tests.{eq-eqb, ne_eqb}
 use lib.{ListN.{length, get_or, take, drop, length-take}, Seq.{take-nil, take_all, get_or-append-add, get_or-take}}
 use Rattle.octets.specs.Octets.{put}
-use Rattle.octets.proofs.ByteLaws.{put_none, getD_put_after}
+use Rattle.octets.proofs.ByteLaws.{put_none, get_or_put_after}
 use Rattle.records.specs.Phone.{decode, joined}
 use Rattle.records.proofs.Joined.{length_joined, read_joined}
 use Rattle.rules.specs.{declared.Answer.Answer, ImageRules.{accepted, «open»}, Faults.{fault, fault_offset}, Step.{opened, refusal}}
@@ -111,4 +111,4 @@ module _ (out : List ℕ) (ls : List Line) where
   line_behind k h =
       let m = length_some in
       let n = length_joined line_bytes line_size (λ n. refl) some in
-      getD_put_after out 0 (joined line_bytes some) k (omega arith) (omega arith)
+      get_or_put_after out 0 (joined line_bytes some) k (omega arith) (omega arith)

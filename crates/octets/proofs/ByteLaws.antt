@@ -45,23 +45,23 @@ module _ (l : List ℕ) (i : ℕ) {m n : List ℕ} where
 
 -- ---- what stands in the run, and what stands outside
 
-getD_put_in : (l : List ℕ) (i : ℕ) (vs : List ℕ) (k : ℕ) → i + length vs ≤ length l → k < length vs → get_or (put l i vs) (i + k) 0 ≡ get_or vs k 0
+get_or_put_in : (l : List ℕ) (i : ℕ) (vs : List ℕ) (k : ℕ) → i + length vs ≤ length l → k < length vs → get_or (put l i vs) (i + k) 0 ≡ get_or vs k 0
 unfolding put
-getD_put_in l i vs k h hk =
+get_or_put_in l i vs k h hk =
     let t : length (take i l) ≡ i = length-take-le i l (omega arith) in
     rw append_assoc
     (subst (λ (n : ℕ). get_or (take i l ++ (vs ++ drop (i + length vs) l)) (n + k) 0 ≡ get_or vs k 0) t
     (get_or-append-add (take i l) (vs ++ drop (i + length vs) l) k 0 ∙ get_or-append vs (drop (i + length vs) l) 0 k hk))
 
-getD_put_before : (l : List ℕ) (i : ℕ) (vs : List ℕ) (j : ℕ) → i + length vs ≤ length l → j < i → get_or (put l i vs) j 0 ≡ get_or l j 0
+get_or_put_before : (l : List ℕ) (i : ℕ) (vs : List ℕ) (j : ℕ) → i + length vs ≤ length l → j < i → get_or (put l i vs) j 0 ≡ get_or l j 0
 unfolding put
-getD_put_before l i vs j h hj =
+get_or_put_before l i vs j h hj =
     let t : length (take i l) ≡ i = length-take-le i l (omega arith) in
     rw append_assoc (get_or-append (take i l) (vs ++ drop (i + length vs) l) 0 j (omega arith) ∙ get_or-take i l j 0 hj)
 
-pub getD_put_after : (l : List ℕ) (i : ℕ) (vs : List ℕ) (j : ℕ) → i + length vs ≤ length l → i + length vs ≤ j → get_or (put l i vs) j 0 ≡ get_or l j 0
+pub get_or_put_after : (l : List ℕ) (i : ℕ) (vs : List ℕ) (j : ℕ) → i + length vs ≤ length l → i + length vs ≤ j → get_or (put l i vs) j 0 ≡ get_or l j 0
 unfolding put
-getD_put_after l i vs j h hj =
+get_or_put_after l i vs j h hj =
     let t : length (take i l ++ vs) ≡ i + length vs = simp length-append (omega (arith, length-take-le i l (omega arith))) in
     let e : length (take i l ++ vs) + (j - (i + length vs)) ≡ j = omega arith in
     let e' : (i + length vs) + (j - (i + length vs)) ≡ j = omega arith in
@@ -110,15 +110,15 @@ pub be_put_same : (w : ℕ) (l : List ℕ) (i v : ℕ) → i + suc w ≤ length 
 be_put_same w l i v h =
     let n = length_bytes (suc w) v in
     be_same (suc w) (put l i (bytes (suc w) v)) (bytes (suc w) v ++ []) i 0
-    (λ k hk. getD_put_in l i (bytes (suc w) v) k (omega arith) (omega arith)
+    (λ k hk. get_or_put_in l i (bytes (suc w) v) k (omega arith) (omega arith)
     ∙ ap₂ (λ (x : List ℕ) (m : ℕ). get_or x m 0) (sym (append-nil (bytes (suc w) v))) (sym (zero-add k)))
     ∙ be_bytes w v []
 
 pub be_put_before : (w : ℕ) (l : List ℕ) (i j : ℕ) (vs : List ℕ) → j + length vs ≤ length l → i + w ≤ j → be w (put l j vs) i ≡ be w l i
-be_put_before w l i j vs h d = be_same w (put l j vs) l i i (λ k hk. getD_put_before l j vs (i + k) h (omega arith))
+be_put_before w l i j vs h d = be_same w (put l j vs) l i i (λ k hk. get_or_put_before l j vs (i + k) h (omega arith))
 
 pub be_put_after : (w : ℕ) (l : List ℕ) (i j : ℕ) (vs : List ℕ) → j + length vs ≤ length l → j + length vs ≤ i → be w (put l j vs) i ≡ be w l i
-be_put_after w l i j vs h d = be_same w (put l j vs) l i i (λ k hk. getD_put_after l j vs (i + k) h (omega arith))
+be_put_after w l i j vs h d = be_same w (put l j vs) l i i (λ k hk. get_or_put_after l j vs (i + k) h (omega arith))
 
 -- ---- back to the bytes
 
