@@ -1,6 +1,7 @@
--- 01, "One run of bench, whole", computed from its bytes, the ten boundaries that 01 marks P, and the two that 02, item 5, adds. Assumes nothing.
+-- 01, "One run of bench, whole", computed from its bytes, the ten boundaries that 01 marks P, and the two that 02, item 5, adds; that they hold is in
+-- proofs/Boundaries.antt. Assumes nothing.
 use Rattle.std.specs.Prelude.{ℕ}
-use mathlib.Core.{Bool.true, List.{List, [], ◌∷◌, ◌++◌, map}, Path.{◌≡◌, refl, ap, ◌∙◌}}
+use mathlib.Core.{Bool.true, List.{List, [], ◌∷◌, ◌++◌, map}, Path.{◌≡◌, refl}}
 use Rattle.std.specs.Prelude.{length, get_or, take}
 use Rattle.octets.specs.Octets.{bytes, put}
 use Rattle.rules.specs.{declared.Answer.Answer, ImageRules.accepted, Codes.certificate_named, After.behind, Step.answers, Computing.computing}
@@ -138,7 +139,7 @@ abbrev pub with_short_root : List ℕ → Answer → Boundary
 with_short_root clock a = record { start = short_root; events = clock ∷ get_or events 0 [] ∷ []; event = 1; expected = a }
 
 -- "a chain of 4 (links 4) and of 5 (none); two issued records verifying each other (none)"; 02, item 5: "the root at its last second and one later"
-abbrev others : List Boundary
+abbrev pub others : List Boundary
 others =
     at_a_chain verify_1 (told 0 3 4)
     ∷ at_a_chain verify_2 (told 0 0 0)
@@ -160,7 +161,7 @@ boundaries =
     ∷ others
 
 -- no answer of the rules
-abbrev untold : Answer
+abbrev pub untold : Answer
 untold = told 255 0 0
 
 -- what the rules tell it
@@ -177,19 +178,6 @@ short_root_accepted = refl
 
 pub twelve_boundaries : length boundaries ≡ 12
 twelve_boundaries = refl
-
--- the answers of a run that are boundaries, and others behind them: so the run is worked out once
-abbrev seven : List Answer → List Answer → List Answer
-seven run others =
-    get_or run 0 untold ∷ get_or run 2 untold ∷ get_or run 4 untold ∷ get_or run 5 untold ∷ get_or run 7 untold ∷ get_or run 10 untold ∷ get_or run 12 untold ∷ others
-
-others_hold : map heard others ≡ map (λ b. b.expected) others
-unfolding computing put
-others_hold = refl
-
--- "These .. are shown to hold for the written rules, as one list under one claim."
-pub boundaries_hold : map heard boundaries ≡ map (λ b. b.expected) boundaries
-boundaries_hold = ap (λ run. seven run (map heard others)) run_as_printed ∙ ap (seven lines) others_hold
 
 -- "Marks are not touched when a date passes.": root 10 a second later
 pub mark_stays : (certificate_named (behind short_root (clock_151 ∷ [])) 10).mark ≡ 1
