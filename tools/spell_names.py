@@ -1,7 +1,7 @@
 #!/usr/bin/env python3
 """Brings this repository's own definitions and lemmas to the spelling of today's Rattle: words in snake case, types in camel case.
 
-usage: python3 tools/spell_names.py [--list]        at the top of the repository, once, right after /opt/rattle/port/port.py
+usage: python3 tools/spell_names.py [--list]        at the top of the repository, once, right after port.py of the kit
        --list prints each old name and its new one, and what would fall together, and writes nothing
 
 Functions, types and constants of src/, exported C names, strings and comments keep their spelling; so do names of the library.

@@ -16,7 +16,8 @@ module _ {A : Type 0} (t : A → Bool) (d : A) where
       n : ℕ
       n = first_place t l
 
-      go : (b : Bool) → (T b → T (t x)) → (n < length l → T (t (get_or l n d))) → cond b 0 (suc n) < suc (length l) → T (t (get_or (x ∷ l) (cond b 0 (suc n)) d))
+      go : (b : Bool) → (T b → T (t x)) → (n < length l → T (t (get_or l n d))) → cond b 0 (suc n) < suc (length l)
+          → T (t (get_or (x ∷ l) (cond b 0 (suc n)) d))
       go true f r h = f tt
       go false f r h = r (le_of_suc-le-suc h)
 

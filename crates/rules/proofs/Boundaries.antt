@@ -8,7 +8,8 @@ use Rattle.rules.specs.WorkedRun.{lines, run_as_printed, Boundary, others, bound
 -- the answers of a run that are boundaries, and others behind them: so the run is worked out once
 abbrev seven : List Answer → List Answer → List Answer
 seven run others =
-    get_or run 0 untold ∷ get_or run 2 untold ∷ get_or run 4 untold ∷ get_or run 5 untold ∷ get_or run 7 untold ∷ get_or run 10 untold ∷ get_or run 12 untold ∷ others
+    get_or run 0 untold ∷ get_or run 2 untold ∷ get_or run 4 untold ∷ get_or run 5 untold
+    ∷ get_or run 7 untold ∷ get_or run 10 untold ∷ get_or run 12 untold ∷ others
 
 others_hold : map heard others ≡ map (λ b. b.expected) others
 unfolding computing put
