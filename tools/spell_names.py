@@ -13,6 +13,7 @@ import sys
 # A fact that would otherwise have the name of a type of src/, and lemmas named after a word of the library that has another name now.
 APART = {"Good-by-domain": "IsGoodByDomain"}
 APART.update({f"getD-put-{w}": f"get_or_put_{w}" for w in ("in", "before", "after")})
+APART["get_d_tabulate"] = "get_or_tabulate"
 TOKEN = re.compile(r"[^\s(){}\[\].,;⌜⌝«»\"`|]+")
 DECLARED = re.compile(r"^(\s*)((?:pub |abbrev |unfoldable )*)(record |data |module )?([^\s:(){}.,;]+)(?=[\s:])")
 LIBRARY = ("mathlib.", "native.", "lib.", "Prim.", "borrow.", "denote.", "Rattle.std.", "Rattle.core.", "Rattle.io.", "Rattle.libc.", "Rattle.os.", "sem.", "kit.")
@@ -63,7 +64,7 @@ def declared():
                 continue
             if m.group(3) == "module " or name in ("use", "open", "where", "module", "_", "|", "let", "in", "elim"):
                 continue
-            if "-" in name:
+            if "-" in name or name in APART:
                 if re.search(r"[A-Za-z]", name):
                     found.setdefault(name, set()).add(path)
     for path in files(".antt"):

@@ -8,7 +8,7 @@ use lib.{Dec.{T, eqb, leb, leb→le, eqb→eq}, ListN.{length, get_or}}
 use Rattle.records.specs.{Sizes.{header_size, largest_image}, Layout.{certificate_read, card_read, executable_read, row_read}}
 use Rattle.records.specs.Phone.{Phone, decode, no_certificate, no_card, no_executable, no_row, certificate_at, card_at, executable_at, row_at}
 use Rattle.records.specs.Frame.{Field, ◌right_if◌, header_fits, framed, header_fields, total_byte, first_wrong, header_fault}
-use Rattle.records.proofs.{Wrong.too_short, Joined.get_d_tabulate, Said.{length_certificates, length_cards, length_executables, length_table, certificate_said}}
+use Rattle.records.proofs.{Wrong.too_short, Joined.get_or_tabulate, Said.{length_certificates, length_cards, length_executables, length_table, certificate_said}}
 use Rattle.records.proofs.FrameFacts.{fields}
 use Rattle.rules.specs.{declared.Site.Site, declared.Fault.Fault, Words.{all, Check, ◌⇒◌, first}, Step.{refused_at, answer_done, opened}}
 use Rattle.rules.specs.ImageRules.{i2, i3, i4, i5, i6, i7, i8, broken, accepted, row_fits, cards_fit, present_known, places_known}
@@ -254,16 +254,16 @@ module _ (l : List ℕ) where
 
   pub card_begins : (i : ℕ) → i < length (decode l).cards → card_at (decode l) i ≡ card_read l (offset_of (decode l) (Site.Card i))
   unfolding decode
-  card_begins i h = rw (length_certificates l) (get_d_tabulate _ _ no_card i (rw (length_cards l) at h))
+  card_begins i h = rw (length_certificates l) (get_or_tabulate _ _ no_card i (rw (length_cards l) at h))
 
   pub executable_begins : (i : ℕ) → i < length (decode l).executables
       → executable_at (decode l) i ≡ executable_read l (offset_of (decode l) (Site.Executable i))
   unfolding decode
-  executable_begins i h = rw (length_certificates l, length_cards l) (get_d_tabulate _ _ no_executable i (rw (length_executables l) at h))
+  executable_begins i h = rw (length_certificates l, length_cards l) (get_or_tabulate _ _ no_executable i (rw (length_executables l) at h))
 
   pub row_begins : (i : ℕ) → i < length (decode l).table → row_at (decode l) i ≡ row_read l (offset_of (decode l) (Site.Row i))
   unfolding decode
-  row_begins i h = rw (length_certificates l, length_cards l, length_executables l) (get_d_tabulate _ _ no_row i (rw (length_table l) at h))
+  row_begins i h = rw (length_certificates l, length_cards l, length_executables l) (get_or_tabulate _ _ no_row i (rw (length_table l) at h))
 
 -- ---- how large what is told is
 

@@ -14,10 +14,10 @@ module _ {A : Type 0} where
   length_tabulate zero f = refl
   length_tabulate (suc n) f = ap suc (length_tabulate n (λ k. f (suc k)))
 
-  pub get_d_tabulate : (n : ℕ) (f : ℕ → A) (d : A) (i : ℕ) → i < n → get_or (tabulate n f) i d ≡ f i
-  get_d_tabulate zero f d i h = absurd (not-suc-le-zero h)
-  get_d_tabulate (suc n) f d zero h = refl
-  get_d_tabulate (suc n) f d (suc i) h = get_d_tabulate n (λ k. f (suc k)) d i (le_of_suc-le-suc h)
+  pub get_or_tabulate : (n : ℕ) (f : ℕ → A) (d : A) (i : ℕ) → i < n → get_or (tabulate n f) i d ≡ f i
+  get_or_tabulate zero f d i h = absurd (not-suc-le-zero h)
+  get_or_tabulate (suc n) f d zero h = refl
+  get_or_tabulate (suc n) f d (suc i) h = get_or_tabulate n (λ k. f (suc k)) d i (le_of_suc-le-suc h)
 
   pub tabulate_of : (d : A) (l : List A) (f : ℕ → A) → ((i : ℕ) → i < length l → f i ≡ get_or l i d) → tabulate (length l) f ≡ l
   tabulate_of d [] f h = refl

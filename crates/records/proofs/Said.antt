@@ -10,7 +10,7 @@ use Rattle.records.specs.Phone.{decode, certificate_slots, card_count, executabl
 use Rattle.records.specs.Phone.{executables_from, table_from, no_certificate, no_card, no_executable, no_row, certificate_at, card_at, executable_at}
 use Rattle.records.specs.Phone.{row_at}
 use Rattle.records.specs.Frame.{Framed}
-use Rattle.records.proofs.{Joined.{length_tabulate, get_d_tabulate}, Records.row_byte_read}
+use Rattle.records.proofs.{Joined.{length_tabulate, get_or_tabulate}, Records.row_byte_read}
 
 -- ---- how many
 
@@ -36,7 +36,7 @@ module _ (l : List ℕ) where
 pub certificate_said : (l : List ℕ) (i : ℕ) → i < length (decode l).trust.certificates
     → certificate_read l (certificates_start + i * certificate_size) ≡ certificate_at (decode l) i
 unfolding decode
-certificate_said l i h = sym (get_d_tabulate _ _ no_certificate i (rw (length_certificates l) at h))
+certificate_said l i h = sym (get_or_tabulate _ _ no_certificate i (rw (length_certificates l) at h))
 
 module _ (l : List ℕ) (f : Framed l) where
   pub card_said : (x i : ℕ) → x ≡ cards_at l → i < length (decode l).cards → card_read l (x + i * card_size) ≡ card_at (decode l) i
@@ -44,7 +44,7 @@ module _ (l : List ℕ) (f : Framed l) where
   card_said x i e h =
       let e' : x ≡ cards_from l = omega arith in
       ap (λ (n : ℕ). card_read l (n + i * card_size)) e'
-      ∙ sym (get_d_tabulate _ _ no_card i (rw (length_cards l) at h))
+      ∙ sym (get_or_tabulate _ _ no_card i (rw (length_cards l) at h))
 
   pub executable_said : (x i : ℕ) → x ≡ executables_at l → i < length (decode l).executables
       → executable_read l (x + i * executable_size) ≡ executable_at (decode l) i
@@ -52,14 +52,14 @@ module _ (l : List ℕ) (f : Framed l) where
   executable_said x i e h =
       let e' : x ≡ executables_from l = omega arith in
       ap (λ (n : ℕ). executable_read l (n + i * executable_size)) e'
-      ∙ sym (get_d_tabulate _ _ no_executable i (rw (length_executables l) at h))
+      ∙ sym (get_or_tabulate _ _ no_executable i (rw (length_executables l) at h))
 
   pub row_said : (x i : ℕ) → x ≡ table_at l → i < length (decode l).table → row_read l (x + i * row_size) ≡ row_at (decode l) i
   unfolding decode
   row_said x i e h =
       let e' : x ≡ table_from l = omega arith in
       ap (λ (n : ℕ). row_read l (n + i * row_size)) e'
-      ∙ sym (get_d_tabulate _ _ no_row i (rw (length_table l) at h))
+      ∙ sym (get_or_tabulate _ _ no_row i (rw (length_table l) at h))
 
   pub table_byte_said : (x i d : ℕ) → x ≡ table_at l → i < length (decode l).table → d < row_size
       → be8 l (x + i * row_size + d) ≡ row_byte (row_at (decode l) i) d

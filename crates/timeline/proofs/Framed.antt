@@ -6,7 +6,7 @@ use borrow.Author.Tests.{eqb-true, leb-true, not-true, not-false}
 use lib.{Dec.{eqb, leb}, ListN.{length, get_or, drop, length-drop, drop_of_length-le}, Seq.{get_or-take, get_or-drop, length-take-le}}
 use Rattle.octets.specs.Octets.{be, be8, be16, be32}
 use Rattle.records.specs.Sizes.{event_size}
-use Rattle.records.proofs.Joined.{length_tabulate, get_d_tabulate}
+use Rattle.records.proofs.Joined.{length_tabulate, get_or_tabulate}
 use Rattle.laws.proofs.Loops.{rest}
 use Rattle.timeline.specs.Timeline.{timeline_version, most_timed, timed_start, timed_size, timed_count, timeline_framed, timed_at, timed, timed_fits}
 use Rattle.timeline.specs.Timeline.{in_time, timeline_fits}
@@ -90,7 +90,7 @@ module _ (t : List ℕ) (i : ℕ) where
   timed_next h =
       let n = length_tabulate (timed_count t) (timed_at t) in
       rest (timed_at t i) (timed t) i (omega arith)
-      ∙ ap (λ x. x ∷ drop (i + 1) (timed t)) (get_d_tabulate (timed_count t) (timed_at t) (timed_at t i) i h)
+      ∙ ap (λ x. x ∷ drop (i + 1) (timed t)) (get_or_tabulate (timed_count t) (timed_at t) (timed_at t i) i h)
 
   -- behind the last there is none
   pub timed_end : timed_count t ≤ i → drop i (timed t) ≡ []
