@@ -8,7 +8,8 @@ use lib.{Dec.{T, eqb, leb, leb→le, eqb→eq}, ListN.{length, get_or}}
 use Rattle.records.specs.{Sizes.{header_size, largest_image}, Layout.{certificate_read, card_read, executable_read, row_read}}
 use Rattle.records.specs.Phone.{Phone, decode, no_certificate, no_card, no_executable, no_row, certificate_at, card_at, executable_at, row_at}
 use Rattle.records.specs.Frame.{Field, ◌right_if◌, header_fits, framed, header_fields, total_byte, first_wrong, header_fault}
-use Rattle.records.proofs.{Wrong.too_short, Joined.get_or_tabulate, Said.{length_certificates, length_cards, length_executables, length_table, certificate_said}}
+use Rattle.records.proofs.{Wrong.too_short, Joined.get_or_tabulate}
+use Rattle.records.proofs.Said.{length_certificates, length_cards, length_executables, length_table, certificate_said}
 use Rattle.records.proofs.FrameFacts.{fields}
 use Rattle.rules.specs.{declared.Site.Site, declared.Fault.Fault, Words.{all, Check, ◌⇒◌, first}, Step.{refused_at, answer_done, opened}}
 use Rattle.rules.specs.ImageRules.{i2, i3, i4, i5, i6, i7, i8, broken, accepted, row_fits, cards_fit, present_known, places_known}
