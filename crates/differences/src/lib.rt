@@ -2,7 +2,7 @@
 // differs is said.
 #![tactic(auto)]
 
-ghost use Rattle.std.specs.Prelude.{◌+◌, ◌≤◌, ◌<◌, true, ◌≡◌, length, take};
+ghost use Rattle.std.specs.Prelude.{◌+◌, ◌≤◌, ◌<◌, true, ◌≡◌, ◌≢◌, ℕ, length, take, slice_index};
 ghost use Rattle.octets.specs.Octets.{put};
 ghost use Rattle.differences.specs.Compared.{FirstDifference, Differ};
 ghost use Rattle.differences.specs.WrittenAnswers.{answer_of, told_line, opened_line, kind_at, text_room, written};
@@ -189,6 +189,8 @@ pub fn find(text: &[u8], from: usize, b: u8) -> usize
     requires { from ≤ length text.now }
     ensures lower_bound { from ≤ result }
     ensures upper_bound { result ≤ length text.now }
+    ensures none_before { (k : ℕ) → from ≤ k → k < result → slice_index text.now k ≢ b }
+    ensures there { result < length text.now → slice_index text.now result ≡ b }
 {
     let mut i = from;
     while i < text.len() {

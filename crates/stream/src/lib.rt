@@ -1,7 +1,7 @@
 // What the programs share: an image as it comes from a descriptor, and what they write, put into a buffer. Nothing is judged here.
 #![tactic(auto)]
 
-ghost use Rattle.std.specs.Prelude.{◌+◌, ◌≤◌, ◌≡◌, length};
+ghost use Rattle.std.specs.Prelude.{◌+◌, ◌≤◌, ◌≡◌, length, IfSome};
 ghost use Rattle.octets.specs.Octets.{put};
 ghost use Rattle.records.specs.Sizes.{largest_image};
 ghost use Rattle.stream.specs.Decimal.{most_digits, decimal, column};
@@ -42,23 +42,14 @@ pub fn read_image(fd: i32, s: &mut [u8]) -> usize
 
 // ---- the words of the command line
 
-// Puts word i at the start of a buffer and answers how long it is: 0 where there is none, and where the buffer has no room for it.
-pub fn word<R: Env>(rt: &R, i: usize, out: &mut [u8]) -> usize
-    ensures { result ≤ length out.new }
+// Puts word i, if there is one, at the start of a buffer and answers how long it is: 0 where the buffer has no room for it.
+pub fn word<R: Env>(rt: &R, i: usize, out: &mut [u8]) -> Option<usize>
+    ensures { IfSome result (λ n. n ≤ length out.new) }
 {
     match rt.arg(i, out) {
-        Ok(n) => n,
-        Err(_) => 0,
-    }
-}
-
-// Whether there is a word i, however long.
-pub fn has_word<R: Env>(rt: &R, i: usize) -> bool {
-    let mut none = [0u8; 0];
-    match rt.arg(i, &mut none) {
-        Ok(_) => true,
-        Err(FillError::TooLong) => true,
-        Err(FillError::NotPresent) => false,
+        Ok(n) => Some(n),
+        Err(FillError::TooLong) => Some(0),
+        Err(FillError::NotPresent) => None,
     }
 }
 

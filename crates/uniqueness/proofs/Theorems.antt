@@ -1,6 +1,7 @@
 -- Any two outcomes that a contract admits are equal: here for the contracts that are more than one equation (a record, a product or an
 -- implication), by crates in the order of the house. Equations.antt has the others. Assumes nothing.
 use Prim.Native.Nat.{ℕ}
+use native.{Mathlib.Omega.arith, Mathlib.Decide.dec_lt}
 use mathlib.Core.{Bool.{Bool, true, false}, List.{List, [], ◌∷◌}, Path.{◌≡◌, refl, sym, ap, ◌∙◌, subst}}
 use Rattle.records.specs.{Phone.{Phone, tabulate, decode, no_row}, declared.Event.Event}
 use Rattle.records.proofs.Joined.{length_tabulate}
@@ -216,3 +217,15 @@ one_differences_image_differs κs a r r' e e' = one_differ r r'
 
 pub one_differences_answers_differ : OneResult Rattle.differences.proofs.answers_differ.Reads.Learnt
 one_differences_answers_differ κs a r r' e e' = one_differ r r'
+
+-- ==== differences: the first place of a byte, since no two places are the first
+
+pub one_differences_find : OneResult Rattle.differences.proofs.find.Reads.Learnt
+one_differences_find κs a r r' e e' x y =
+    elim (dec_lt r r') [
+      | yes h ↦ absurd (y.1.1.0 r x.0 h (x.1.1.1 (omega (arith, y.1.0))))
+      | no h ↦ elim (dec_lt r' r) [
+        | yes k ↦ absurd (x.1.1.0 r' y.0 k (y.1.1.1 (omega (arith, x.1.0))))
+        | no k ↦ omega arith
+      ]
+    ]

@@ -357,7 +357,7 @@ fn main(rt: HostRuntime) -> std::io::Result<()> {
     let mut list = io::large_buffer();
     let n = read_rest(cases, &mut list);
     let mut seen = [0u64; COUNTS];
-    let every_way = stream::has_word(&rt, 1);
+    let every_way = stream::word(&rt, 1, &mut [0u8; 0]).is_some();
     all_cases(&rt, &list[..n], every_way, &mut seen);
     coverage::report(&seen);
     Ok(())

@@ -271,16 +271,15 @@ fn help() {
 // The words behind the program's name.
 fn main(rt: HostRuntime) {
     let mut first = [0u8; 32];
-    let id_length = stream::word(&rt, 1, &mut first);
+    let Some(id_length) = stream::word(&rt, 1, &mut first) else {
+        complain(b"why: an id is missing; usage: why ID [EVENTS] < FILE\n");
+        return;
+    };
     if asks_help(&first[..id_length]) {
         help();
         return;
     }
-    if !stream::has_word(&rt, 1) {
-        complain(b"why: an id is missing; usage: why ID [EVENTS] < FILE\n");
-        return;
-    }
-    if stream::has_word(&rt, 3) {
+    if stream::word(&rt, 3, &mut [0u8; 0]).is_some() {
         complain(b"why: a word too many; usage: why ID [EVENTS] < FILE\n");
         return;
     }
@@ -292,12 +291,11 @@ fn main(rt: HostRuntime) {
         complain(b"why: ID is a number from 0 to 65535\n");
         return;
     }
-    if !stream::has_word(&rt, 2) {
+    let mut second = [0u8; 32];
+    let Some(events_length) = stream::word(&rt, 2, &mut second) else {
         explain(id as u16, 0);
         return;
-    }
-    let mut second = [0u8; 32];
-    let events_length = stream::word(&rt, 2, &mut second);
+    };
     let Number::Is(events) = parse(&second[..events_length]) else {
         complain(b"why: EVENTS is a number of at most 19 digits\n");
         return;
