@@ -10,9 +10,6 @@ ghost use Rattle.stream.specs.PrintedLines.{longest_line};
 use records::{Event, image};
 use stream::{STDIN, STDOUT};
 
-// Events are numbered as far as 64 bits count: a million of them a second take half a million years to get there.
-const MOST_EVENTS: u64 = 18446744073709551615;
-
 // ---- a run
 
 // A record at a time until the stream ends; what is left of it where that is less than a record is the last one.
@@ -21,13 +18,14 @@ fn all_events(s: &mut [u8], v: &mut [u8], out: &mut [u8])
     requires v_len { (length v.old ≡ event_size) × (longest_line ≤ length out.old) }
 {
     let mut used = 0;
-    let mut n: u64 = 0;
-    let mut got = io::read_full(STDIN, v);
-    while n < MOST_EVENTS && 0 < got {
-        n += 1;
+    // Events are numbered as far as 64 bits count: a million of them a second take half a million years to get there.
+    for n in 0..u64::MAX {
+        let got = io::read_full(STDIN, v);
+        if got == 0 {
+            break;
+        }
         let a = events::step_accepted(s, &v[..got]);
-        used = stream::add_line(out, used, n, v[0], a);
-        got = io::read_full(STDIN, v);
+        used = stream::add_line(out, used, n + 1, v[0], a);
     }
     io::write_all(STDOUT, &out[..used]);
 }
@@ -35,9 +33,9 @@ fn all_events(s: &mut [u8], v: &mut [u8], out: &mut [u8])
 // What came as an image, and the events behind it. Zeros of the buffer never stand for bytes that were not read.
 fn lesson(s: &mut [u8]) {
     let mut out = io::large_buffer();
-    let fault = opening::open(s);
-    if fault.rule != 0 {
-        let told = opening::told(s, fault);
+    let outcome = opening::open(s);
+    if outcome.is_err() {
+        let told = opening::told(s, outcome);
         let refusal = stream::put_refusal(&mut out, told.rule, told.offset);
         io::write_all(STDOUT, &out[..refusal]);
         return;

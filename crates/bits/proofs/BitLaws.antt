@@ -8,7 +8,7 @@ use lib.{Bits.{bit_and, bit_or, and_mask, or_block, and_block, or_step, or_zero_
 use Rattle.bits.specs.Bits.{digit, put_digit}
 
 -- 1 << k in n bits
-one_shl : (n k : ℕ) → k < n → 1 * 2 ^ k % 2 ^ n ≡ 2 ^ k
+pub one_shl : (n k : ℕ) → k < n → 1 * 2 ^ k % 2 ^ n ≡ 2 ^ k
 one_shl n k h = shl_exact 1 k n (lit< tt) (omega arith) ∙ one-mul (2 ^ k)
 
 or_one : (x : ℕ) → bit_or x 1 ≡ x / 2 * 2 + 1

@@ -3,7 +3,7 @@ use Prim.Native.Nat.{ℕ, zero, suc, ◌+◌, ◌-◌, ◌*◌, ◌/◌, ◌%◌
 use mathlib.Core.{Bool.{Bool, true, false, cond, not, ◌&&◌, ◌||◌}, List.{List, [], ◌∷◌}, Logic.◌≢◌, Path.{◌≡◌, refl, sym, ap, ap₂, ◌∙◌, subst}}
 use native.{Mathlib.Nat.{pow-suc, div-lt_iff_lt-mul, zero-lt-suc, zero-mul, one-mul, add-mul, mul_assoc, mul_comm}, Mathlib.Numerals.add-one}
 use native.Mathlib.Omega.{arith}
-use lib.{Dec.eqb, ListN.{length, get_or, drop, drop_of_length-le}, Seq.drop-cons, Pow.{pow_pos, pow_mono}}
+use lib.{Dec.eqb, ListN.{length, get_or, drop, drop_of_length-le}, Seq.drop-cons, Pow.{pow_pos}}
 use lib.{Bits.{bit_and, bit_or, bit_xor, differ, and_step, or_step, xor_step, and_self}, Count.{count_trailing_zeros, under}}
 use Rattle.bits.specs.{Bits.set_bit, SlotWord.{word, any_of, keep, less_lowest}}
 use Rattle.bits.proofs.BitLaws.{put_above}
@@ -54,15 +54,6 @@ lowest_below (suc d) (suc n) w l p h = go (λ k. lowest_below d n (w / 2) (omega
   where
     go : (0 < w / 2 → count_trailing_zeros d (w / 2) < n) → (r : ℕ) → w % 2 ≡ r → under r (count_trailing_zeros d (w / 2)) < suc n
     go below zero e = let ih = below (omega arith) in omega arith
-    go below (suc r) e = omega arith
-
-lowest_le : (d w : ℕ) → 0 < w → w < 2 ^ d → 2 ^ count_trailing_zeros d w ≤ w
-unfolding count_trailing_zeros
-lowest_le zero w p h = absurd (omega arith)
-lowest_le (suc d) w p h = go (λ k. lowest_le d (w / 2) k (half_lt w d h)) (w % 2) refl
-  where
-    go : (0 < w / 2 → 2 ^ count_trailing_zeros d (w / 2) ≤ w / 2) → (r : ℕ) → w % 2 ≡ r → 2 ^ under r (count_trailing_zeros d (w / 2)) ≤ w
-    go below zero e = let ih = below (omega arith) in omega (arith, pow-suc 2 (count_trailing_zeros d (w / 2)))
     go below (suc r) e = omega arith
 
 pub falls : (d w : ℕ) → 0 < w → w - 2 ^ count_trailing_zeros d w < w
@@ -267,15 +258,6 @@ module _ {A : Type 0} (d : ℕ) (l : List A) (v t : ℕ) (h : length l ≤ d) (p
   pub at_lowest : t < length l
   at_lowest = subst (λ k. k < length l) (sym e) (lowest_below d (length l) v h (omega arith) b)
 
-  fits : v < 2 ^ d
-  fits = let m = pow_mono {i = length l} {j = d} h in omega arith
-
-  lowest_bit : v - less_lowest d v ≡ 2 ^ t
-  lowest_bit =
-      let k = lowest_le d v (omega arith) fits in
-      let j : 2 ^ t ≡ 2 ^ count_trailing_zeros d v = ap (λ (n : ℕ). 2 ^ n) e in
-      omega arith
-
   module _ (f : A → Bool) (z x : A) (q : x ≡ get_or l t z) where
     at_slot : get_or l (count_trailing_zeros d v) z ≡ x
     at_slot = ap (λ k. get_or l k z) (sym e) ∙ sym q
@@ -304,10 +286,9 @@ module _ {A : Type 0} (d : ℕ) (l : List A) (v t : ℕ) (h : length l ≤ d) (p
           let k : a + (0 + keep u f l) ≡ w = ap (λ b. a + (cond b (2 ^ t) 0 + keep u f l)) (sym y) ∙ keep_here in
           omega arith
 
-      pub keep_takes : f x ≡ true → (a + (v - u)) + keep u f l ≡ w
+      pub keep_takes : f x ≡ true → (a + 2 ^ t) + keep u f l ≡ w
       keep_takes y =
           let k : a + (2 ^ t + keep u f l) ≡ w = ap (λ b. a + (cond b (2 ^ t) 0 + keep u f l)) (sym y) ∙ keep_here in
-          let j : v - u ≡ 2 ^ t = ap (λ (n : ℕ). v - n) g ∙ lowest_bit in
           omega arith
 
 pub any_left_none : {A : Type 0} (f : A → Bool) (l : List A) (w : Bool) (v : ℕ) → v ≡ 0 → any_of v f l ≡ w → false ≡ w

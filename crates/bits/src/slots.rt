@@ -3,6 +3,8 @@ ghost use Rattle.std.specs.Prelude.{◌≡◌, ◌<◌};
 ghost use Rattle.std.specs.Int.Count.{count_trailing_zeros};
 ghost use Rattle.bits.specs.Bits.{set_bit};
 ghost use Rattle.bits.specs.SlotWord.{less_lowest};
+ghost use Rattle.bits.specs.GivesSlots.{GivesLowest};
+ghost use Rattle.std.specs.Iterator.{at_most};
 
 // The word with slot i in it.
 pub fn with_slot(w: u64, i: usize) -> u64
@@ -26,4 +28,25 @@ pub fn rest(w: u64) -> u64
     ensures { result ≡ less_lowest 64 w }
 {
     w & (w - 1)
+}
+
+// The slots of a word, from the lowest up.
+#[derive(Drop)]
+pub struct Slots(pub u64);
+
+impl Iterator for Slots {
+    type Item = usize;
+
+    ghost next_gives = { GivesLowest };
+
+    ghost remaining = { λ s. at_most s.0 };
+
+    fn next(&mut self) -> Option<usize> {
+        if self.0 == 0 {
+            return None;
+        }
+        let i = lowest(self.0);
+        self.0 = rest(self.0);
+        Some(i)
+    }
 }

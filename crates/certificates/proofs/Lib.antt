@@ -4,4 +4,4 @@ pub mod Enables
 pub mod Marking
 pub mod MarksAndMessages
 pub mod NamedCertificate
-pub mod OtherOwners
+pub mod Refusing

@@ -1,10 +1,10 @@
 -- What stands against making a certificate valid, by marking it or by replacing it. Definitions only.
 use mathlib.Core.{Bool.not, List.{List, [], ◌∷◌, ◌++◌}}
-use Rattle.std.specs.Prelude.{eqb, ltb}
+use Rattle.std.specs.Prelude.{ℕ, eqb, ltb, Result}
 use Rattle.records.specs.{Phone.Phone, declared.Certificate.Certificate, declared.Event.Event}
 use Rattle.rules.specs.{Words.{any, Check, ◌⇒◌, first, first_place}, Chains.in_date}
 use Rattle.rules.specs.Codes.{has_id, certificate_named, in_another, rival, may_replace}
-use Rattle.handling.specs.{declared.Plan.Plan, Plans.{plan, certificate_rows}}
+use Rattle.handling.specs.Plans.{plan, certificate_rows}
 use Rattle.certificates.specs.Decisions.{of_other_operator}
 
 -- of c being valid, besides what stands against any event on it and besides its date
@@ -23,7 +23,7 @@ replacing_rows p e c r =
     ∷ (validity_rows p c ++ ((not (may_replace e c r) ⇒ 17) ∷ (ltb e.expiry p.trust.seen.clock ⇒ 18) ∷ []))
 
 -- the plan of replacing, by record r, the certificate that e names, whatever its form: "to nobody where either record is a third party one"
-abbrev pub replace_plan : Phone → Event → Certificate → Plan
+abbrev pub replace_plan : Phone → Event → Certificate → Result ℕ ℕ
 replace_plan p e r =
     plan (first (certificate_rows 16 (eqb r.domain 3) p e ++ replacing_rows p e (certificate_named p e.id) r))
     (first_place (has_id e.id) p.trust.certificates)

@@ -1,6 +1,6 @@
 // What an event about certificates writes, once it is done.
 ghost use Rattle.std.specs.Prelude.{◌<◌, ◌≤◌, eqb, length, ◌≡◌};
-ghost use Rattle.certificates.specs.StoredCertificate.{stored};
+ghost use Rattle.certificates.specs.StoredCertificate.{NamedAt, stored};
 ghost use Rattle.chain.specs.Breaks.{disables};
 ghost use Rattle.rules.specs.Words.{first_place, any};
 ghost use Rattle.rules.specs.AcceptedImage.{AcceptedImage};
@@ -26,9 +26,7 @@ pub fn install_certificate(s: &mut [u8], c: Certificate, slot: usize)
 // 6
 pub fn delete_certificate(s: &mut [u8], e: Event, slot: usize)
     requires accepted_image { AcceptedImage s.old }
-    requires slot_value { slot ≡ first_place (has_id e.id) (decode s.old).trust.certificates }
-    requires slot_in_bounds { slot < length (decode s.old).trust.certificates }
-    requires id_nonzero { 0 < e.id }
+    requires named { NamedAt (decode s.old) e slot }
     ensures { s.new ≡ encode (delete_certificate e (decode s.old)) }
 {
     image::clear_certificate(s, slot);
@@ -37,9 +35,7 @@ pub fn delete_certificate(s: &mut [u8], e: Event, slot: usize)
 // 7: the mark of a card's operator root takes the phone's away first.
 pub fn mark_valid(s: &mut [u8], e: Event, slot: usize)
     requires accepted_image { AcceptedImage s.old }
-    requires slot_value { slot ≡ first_place (has_id e.id) (decode s.old).trust.certificates }
-    requires slot_in_bounds { slot < length (decode s.old).trust.certificates }
-    requires id_nonzero { 0 < e.id }
+    requires named { NamedAt (decode s.old) e slot }
     ensures { s.new ≡ encode (mark_valid e (decode s.old)) }
 {
     let c = image::certificate(s, slot);
@@ -54,9 +50,7 @@ pub fn mark_valid(s: &mut [u8], e: Event, slot: usize)
 // 8
 pub fn mark_invalid(s: &mut [u8], e: Event, slot: usize)
     requires accepted_image { AcceptedImage s.old }
-    requires slot_value { slot ≡ first_place (has_id e.id) (decode s.old).trust.certificates }
-    requires slot_in_bounds { slot < length (decode s.old).trust.certificates }
-    requires id_nonzero { 0 < e.id }
+    requires named { NamedAt (decode s.old) e slot }
     ensures { s.new ≡ encode (mark_invalid e (decode s.old)) }
 {
     image::set_mark(s, slot, Certificate::INVALID);
@@ -65,9 +59,7 @@ pub fn mark_invalid(s: &mut [u8], e: Event, slot: usize)
 // 16: the root keeps its slot.
 pub fn replace(s: &mut [u8], e: Event, slot: usize)
     requires accepted_image { AcceptedImage s.old }
-    requires slot_value { slot ≡ first_place (has_id e.id) (decode s.old).trust.certificates }
-    requires slot_in_bounds { slot < length (decode s.old).trust.certificates }
-    requires id_nonzero { 0 < e.id }
+    requires named { NamedAt (decode s.old) e slot }
     ensures { s.new ≡ encode (replace e (decode s.old)) }
 {
     let c = image::certificate(s, slot);
@@ -79,18 +71,16 @@ fn is_listed(e: Event, id: u16) -> bool
     requires { e.fourth ≤ 8 }
     ensures { result ≡ any (eqb id) (listed e) }
 {
-    let n = e.fourth as usize;
-    let mut i: usize = 0;
-    while i < n {
+    for i in 0..e.fourth as usize {
         if id == forms::listed_id(e, i) {
             return true;
         }
-        i += 1;
     }
     false
 }
 
 // What a message makes of `enabled`.
+#[tactic(auto, unfolding(rules::specs::Effects::enabled_by))]
 fn enabled_by(e: Event, c: Certificate) -> u8
     requires { e.fourth ≤ 8 }
     ensures { result ≡ enabled_by e c }
@@ -111,21 +101,19 @@ fn enabled_by(e: Event, c: Certificate) -> u8
 pub fn message(s: &mut [u8], e: Event) -> bool
     requires framed { Framed s.old }
     requires fourth_bound { e.fourth ≤ 8 }
-    ensures { (s.new ≡ encode (message e (decode s.old))) × (result ≡ any (disables e) (decode s.old).trust.certificates) }
+    ensures image { s.new ≡ encode (message e (decode s.old)) }
+    ensures broken { result ≡ any (disables e) (decode s.old).trust.certificates }
 {
     let slots = image::certificate_slots(s);
     let mut broken = false;
-    let mut i: usize = 0;
-    while i < slots {
+    for i in 0..slots {
         let c = image::certificate(s, i);
         if !terms::is_third_party_root(c) {
-            i += 1;
             continue;
         }
         let enabled = enabled_by(e, c);
         image::set_enabled(s, i, enabled);
-        broken = broken | ((c.enabled == records::ENABLED) & (enabled != records::ENABLED));
-        i += 1;
+        broken |= (c.enabled == records::ENABLED) & (enabled != records::ENABLED);
     }
     image::set_mode(s, e.third as u16);
     broken

@@ -1,6 +1,6 @@
 -- I8 of one executable, by the good slots of the domain that it has: I7 leaves none a domain above 3. Assumes nothing.
 use Prim.Native.Nat.{ℕ, ◌≤◌, ◌<◌}
-use mathlib.Core.{Bool.{Bool, true}, List.Memᴰ, Logic.◌≢◌, Path.{◌≡◌, refl, ◌∙◌}}
+use mathlib.Core.{Bool.{Bool, not}, List.Memᴰ, Logic.◌≢◌, Path.{◌≡◌, refl, ap, ◌∙◌}}
 use borrow.Author.Tests.{eq-eqb, ne_eqb}
 use lib.{Dec.T, ListN.length}
 use Rattle.records.specs.{Phone.{Trust, Phone, executable_at, no_executable}, declared.Executable.Executable}
@@ -17,11 +17,12 @@ known p h x m =
 pub domain_known : (p : Phone) → T (i7 p) → (i : ℕ) → i < length p.executables → {x : Executable} → x ≡ executable_at p i → x.domain ≤ 3
 domain_known p h i b e = rw e (known p h (executable_at p i) (mem_at p.executables i no_executable b))
 
-module _ (t : Trust) (x : Executable) where
-  pub fits_untrusted : x.domain ≡ 0 → true ≡ chained_fits t x
-  fits_untrusted z = rw (eq-eqb x.domain 0 z)
-
+-- x was read of the slot of y
+module _ (t : Trust) {x y : Executable} (q : x ≡ y) where
   -- what is asked of x in its own domain is what I8 asks of it
-  pub fits_own : x.domain ≢ 0 → {b : Bool} → b ≡ chained_in x.domain t x → b ≡ chained_fits t x
+  pub fits_own : x.domain ≢ 0 → {b : Bool} → b ≡ chained_in x.domain t x → not b ≡ not (chained_fits t y)
   unfolding chained_in
-  fits_own h e = e ∙ rw (eq-eqb x.domain x.domain refl, ne_eqb x.domain 0 h)
+  fits_own h e = ap not (e ∙ own ∙ ap (chained_fits t) q)
+    where
+      own : chained_in x.domain t x ≡ chained_fits t x
+      own = rw (eq-eqb x.domain x.domain refl, ne_eqb x.domain 0 h)

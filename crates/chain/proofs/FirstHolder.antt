@@ -1,14 +1,18 @@
 -- The first record with a key tells the domain that the key chains to, where it chains at all. Assumes nothing.
-use Prim.Native.Nat.{ℕ, ◌+◌, ◌≤◌, ◌<◌}
+use Prim.Native.Nat.{ℕ, ◌≤◌, ◌<◌}
 use mathlib.Core.{Bool.{Bool, true, false, cond}, List.Memᴰ, Logic.{◌≢◌, ◌⊎◌, inl, inr}, Path.{◌≡◌, refl, sym, ap, ◌∙◌}}
 use native.Mathlib.Omega.{arith}
-use borrow.Author.Tests.{eq-eqb, ne_eqb}
-use lib.{Dec.{T, eqb, eqb→eq}, ListN.{length, drop}}
+use borrow.Author.Tests.{ne_eqb}
+use lib.{Dec.{T, eqb, eqb→eq}, ListN.{length}}
+use Rattle.std.specs.Prelude.{Option, Some, None}
+use Rattle.std.proofs.lemmas.{Bool.{ltb-true, ltb-false}, List.get_or_past, Option.{cond_some, none-some}}
 use Rattle.records.specs.{Phone.{Trust, no_certificate}, declared.Certificate.Certificate}
-use Rattle.rules.specs.{declared.Chained.Chained, Words.{any, find, least}, Chains.{serves, good, most_links, within, chains_to, chain_domain, links, chain_of}}
+use Rattle.rules.specs.{declared.Chained.Chained, Words.{any, first_place, least}}
+use Rattle.rules.specs.Chains.{serves, good, most_links, within, chains_to, chain_domain, links, chain_of}
 use Rattle.rules.specs.AcceptedImage.{Keyed}
-use Rattle.laws.proofs.{Tests.{tests, eq→eqb, neqb→ne}, Lists.{any_out, any_in, find_in}, Loops.{find_here, find_next, find_end}}
+use Rattle.laws.proofs.{Tests.{tests, eq→eqb, neqb→ne}, Lists.{any_out, any_in, find_in}, Places.{place_told, place_named}}
 use Rattle.laws.proofs.{Least.{least_small, least_passes, least_least}, Domain.{chain_domain_is, chain_found}}
+use Rattle.sweep.specs.FirstPassing.{found}
 use Rattle.chain.specs.SlotWords.{slot, holder}
 use Rattle.chain.proofs.Good.{good_up, serves_more}
 
@@ -97,25 +101,33 @@ module _ (t : Trust) (k : ℕ) where
 
 -- ---- the search for it
 
-module _ (t : Trust) (k j : ℕ) where
-  -- the first record with the key from slot j on
-  abbrev pub holder_from : Certificate
-  holder_from = find (λ c. eqb c.key k) no_certificate (drop j t.certificates)
+module _ (t : Trust) (k : ℕ) where
+  abbrev pub of_key : Certificate → Bool
+  of_key c = eqb c.key k
 
-  pub holder_start : j ≡ 0 → holder_from ≡ holder t k
-  unfolding holder
-  holder_start z = ap (λ n. find (λ c. eqb c.key k) no_certificate (drop n t.certificates)) z
+  abbrev place : ℕ
+  place = first_place of_key t.certificates
 
-  module _ (inv : holder_from ≡ holder t k) where
-    pub holder_here : j < length t.certificates → (c : Certificate) → c ≡ slot t j → c.key ≡ k → c.domain ≡ (holder t k).domain
-    holder_here l c q e =
-        let same = eq-eqb (slot t j).key k (ap (λ x. x.key) (sym q) ∙ e) in
-        ap (λ x. x.domain) (q ∙ sym (find_here no_certificate t.certificates j (λ c. eqb c.key k) l same) ∙ inv)
+  module _ {r : Option ℕ} (q : r ≡ found of_key t.certificates) where
+    module _ {j : ℕ} (e : r ≡ Some j) where
+      at : (any of_key t.certificates ≡ true) × (place ≡ j)
+      unfolding found
+      at = cond_some (any of_key t.certificates) place j (sym q ∙ e)
 
-    pub holder_next : j < length t.certificates → (c : Certificate) → c ≡ slot t j → c.key ≢ k
-        → find (λ c. eqb c.key k) no_certificate (drop (j + 1) t.certificates) ≡ holder t k
-    holder_next l c q e =
-        sym (find_next no_certificate t.certificates j (λ c. eqb c.key k) l (ne_eqb (slot t j).key k (λ z. e (ap (λ x. x.key) q ∙ z)))) ∙ inv
+      pub holder_in : j < length t.certificates
+      holder_in = omega (arith, at.1, ltb-true place (length t.certificates) (place_told of_key t.certificates refl refl ∙ at.0))
 
-    pub holder_none : length t.certificates ≤ j → 0 ≡ (holder t k).domain
-    holder_none l = ap (λ x. x.domain) (sym (find_end no_certificate t.certificates j (λ c. eqb c.key k) l) ∙ inv)
+      pub holder_here : {c : Certificate} → c ≡ slot t j → c.domain ≡ (holder t k).domain
+      unfolding holder
+      holder_here read = ap (λ c. c.domain) (place_named of_key t.certificates (sym at.1) refl no_certificate read)
+
+    -- behind every record stands none, whose domain is 0
+    pub holder_none : r ≡ None → 0 ≡ (holder t k).domain
+    unfolding found holder
+    holder_none e =
+        let past = ltb-false place (length t.certificates) (place_told of_key t.certificates refl refl ∙ go (any of_key t.certificates) (sym e ∙ q)) in
+        ap (λ c. c.domain) (sym (get_or_past t.certificates place no_certificate past) ∙ place_named of_key t.certificates refl refl no_certificate refl)
+      where
+        go : (b : Bool) → None ≡ cond b (Some place) None → b ≡ false
+        go true h = absurd (none-some place h)
+        go false h = refl

@@ -4,13 +4,15 @@ use mathlib.Core.{Bool.{Bool, true, false, cond, not, ◌&&◌, ◌||◌, false�
 use mathlib.Core.Path.{◌≡◌, refl, sym, ap, ap₂, ◌∙◌, subst}
 use borrow.Author.Tests.{ne_eqb}
 use native.Mathlib.Omega.{arith}
-use lib.{Bits.{bit_or, or_zero_l, or_zero_r}, Count.count_trailing_zeros, Dec.{T, eqb, eqb→eq}, ListN.{length, drop}, Pow.pow_pos}
+use lib.{Bits.{bit_or, or_zero_l, or_zero_r}, Count.count_trailing_zeros, Dec.{T, eqb, eqb→eq}, ListN.{length, drop}}
 use Rattle.records.specs.{Phone.{Trust, no_certificate}, declared.Certificate.Certificate}
 use Rattle.bits.specs.{Bits.set_bit, SlotWord.{word, any_of, less_lowest}}
 use Rattle.bits.proofs.{BitLaws.or_set, WordLaws.{any_nothing, word_lt, word_none, word_same, word_or, Built, built_none, built_skips, built_takes, built_all}}
 use Rattle.rules.specs.{Words.{any, least}, Chains.{trusted_root, link, serves, good, most_links, within, links}}
 use Rattle.laws.proofs.{Tests.{tests, or_cases, eq→eqb, neqb→ne, same, eqb_turn}, Lists.{any_out, any_in}, Least.least_small, Loops.{any_rest, any_end}}
-use Rattle.chain.specs.{declared.search.Level.Level, SlotWords.{slot, rooted, linked, reach, verifiers, LevelOf}}
+use Rattle.std.specs.Prelude.{Option, Some, None}
+use Rattle.std.proofs.lemmas.Option.{cond_some, none-some}
+use Rattle.chain.specs.SlotWords.{slot, rooted, linked, reach, verifiers, level_of}
 use Rattle.chain.proofs.WordsAny.{any_none, any_same, any_or, word_any, Going, goes_to, some_here}
 
 none : (b : Bool) → (b && false) ≡ false
@@ -68,18 +70,48 @@ least_later f g h z (suc n) = rw (sym (least_later f g h z n), h (suc n)) (go (l
     go zero false = refl
     go (suc r) b = rw (ne_eqb (suc r) 0 (λ z. omega arith)) (rw (ne_eqb (suc r) 0 (λ z. omega arith), ne_eqb (suc (suc r)) 0 (λ z. omega arith)))
 
-abbrev told : Bool → ℕ → Level
-told b w = record { found = b; links = w }
+-- ---- what a level tells
+
+module _ (t : Trust) (d : ℕ) (p : ℕ → Bool) (before : ℕ) where
+  abbrev has_root : Bool
+  has_root = any (rooted t d p) t.certificates
+
+  abbrev level_links : ℕ
+  level_links = bit_or before (word (linked t d p) t.certificates)
+
+  abbrev level_if : Bool → Option ℕ
+  level_if b = cond b None (Some level_links)
+
+  level_rooted : true ≡ has_root → None ≡ level_of t d p before
+  unfolding level_of
+  level_rooted h = ap level_if h
+
+  level_rootless : false ≡ has_root → {w : ℕ} → w ≡ level_links → Some w ≡ level_of t d p before
+  unfolding level_of
+  level_rootless h e = ap Some e ∙ ap level_if h
+
+  module _ {r : Option ℕ} (q : r ≡ level_of t d p before) where
+    level_root : r ≡ None → has_root ≡ true
+    unfolding level_of
+    level_root e = go has_root (sym e ∙ q)
+      where
+        go : (b : Bool) → None ≡ level_if b → b ≡ true
+        go true h = refl
+        go false h = absurd (none-some level_links h)
+
+    level_some : {w : ℕ} → r ≡ Some w → (has_root ≡ false) × (w ≡ level_links)
+    unfolding level_of
+    level_some {w} e = go has_root (sym e ∙ q)
+      where
+        go : (b : Bool) → Some w ≡ level_if b → (b ≡ false) × (w ≡ level_links)
+        go true h = absurd (none-some w (sym h))
+        go false h = (refl, (cond_some true w level_links h).1)
 
 -- a level by itself is a word
-pub level_fits : (t : Trust) (d : ℕ) (p : ℕ → Bool) (r : Level) → LevelOf t d p 0 r → r.links < 2 ^ length t.certificates
-level_fits t d p r s = subst (λ k. k < 2 ^ length t.certificates) (sym s.links) (go r.found)
-  where
-    go : (b : Bool) → cond b 0 (bit_or 0 (word (linked t d p) t.certificates)) < 2 ^ length t.certificates
-    go true = pow_pos (length t.certificates)
-    go false =
-        subst (λ k. k < 2 ^ length t.certificates) (sym (or_zero_l (word (linked t d p) t.certificates)))
-        (word_lt (linked t d p) t.certificates)
+pub level_fits : (t : Trust) (d : ℕ) (p : ℕ → Bool) {r : Option ℕ} → r ≡ level_of t d p 0 → {w : ℕ} → r ≡ Some w → w < 2 ^ length t.certificates
+level_fits t d p q e =
+    subst (λ k. k < 2 ^ length t.certificates) (sym ((level_some t d p 0 q e).1 ∙ or_zero_l (word (linked t d p) t.certificates)))
+    (word_lt (linked t d p) t.certificates)
 
 -- ---- a sweep for one key, and the slots that are left
 
@@ -100,12 +132,10 @@ module _ (t : Trust) (d k before : ℕ) where
   pub sweep_begin : Sweeping before 0
   sweep_begin = record { own = 0; joined = sym (or_zero_r before); rootless = refl; built = built_none _ _ }
 
-  pub sweep_end : {w i : ℕ} → Sweeping w i → length t.certificates ≤ i → LevelOf t d one_key before (told false w)
+  pub sweep_end : {w i : ℕ} → Sweeping w i → length t.certificates ≤ i → Some w ≡ level_of t d one_key before
   sweep_end {w} {i} s h =
-      record {
-        found = sym (any_end no_certificate t.certificates i (rooted t d one_key) h) ∙ s.rootless;
-        links = s.joined ∙ ap (bit_or before) (built_all _ _ s.built h);
-      }
+      level_rootless t d one_key before (sym (any_end no_certificate t.certificates i (rooted t d one_key) h) ∙ s.rootless)
+      (s.joined ∙ ap (bit_or before) (built_all _ _ s.built h))
 
   module _ {w i : ℕ} (s : Sweeping w i) (h : i < length t.certificates) {c : Certificate} (q : c ≡ slot t i) {b : Bool}
       (e : b ≡ (eqb c.domain d && eqb c.key k)) where
@@ -132,8 +162,8 @@ module _ (t : Trust) (d k before : ℕ) where
         skips (roots_left _ false refl (ap (λ x. x && trusted_root t.seen c) z)) (link_here _ refl ∙ ap (λ x. x && link t.seen c) z)
 
     module _ (y : b ≡ true) {r : Bool} (f : r ≡ trusted_root t.seen c) where
-      pub sweep_root : r ≡ true → LevelOf t d one_key before (told true 0)
-      sweep_root x = record { found = roots_left r true f (ap (λ x. x && r) y ∙ x); links = refl }
+      pub sweep_root : r ≡ true → None ≡ level_of t d one_key before
+      sweep_root x = level_rooted t d one_key before (roots_left r true f (ap (λ x. x && r) y ∙ x))
 
       module _ (n : r ≡ false) {l : Bool} (g : l ≡ link t.seen c) where
         rootless : roots (i + 1) ≡ roots 0
@@ -225,12 +255,10 @@ module _ (t : Trust) (d : ℕ) where
     pub up_fits : {left w : ℕ} → Raising left w → w < 2 ^ length t.certificates
     up_fits {left} {w} s = subst (λ k. k < 2 ^ length t.certificates) (sym s.found) (word_lt (linked t d s.asked) t.certificates)
 
-    pub up_end : {left w : ℕ} → Raising left w → left ≡ 0 → LevelOf t d (verifiers t level) 0 (told false w)
+    pub up_end : {left w : ℕ} → Raising left w → left ≡ 0 → Some w ≡ level_of t d (verifiers t level) 0
     up_end {left} {w} s z =
-        record {
-          found = sym s.rootless ∙ rooted_same s.asked (verifiers t level) all;
-          links = s.found ∙ linked_same s.asked (verifiers t level) all ∙ sym (or_zero_l _);
-        }
+        level_rootless t d (verifiers t level) 0 (sym s.rootless ∙ rooted_same s.asked (verifiers t level) all)
+        (s.found ∙ linked_same s.asked (verifiers t level) all ∙ sym (or_zero_l _))
       where
         all : (v : ℕ) → s.asked v ≡ verifiers t level v
         all v =
@@ -272,9 +300,10 @@ module _ (t : Trust) (d : ℕ) where
               let a = subst (λ k. T (s.asked k)) (eqb→eq c.verifying v (subst T (sym x) tt)) (was_asked y) in
               same (s.asked v) true (λ _. tt) (λ _. a)
 
-      module _ {more : Level} (m : LevelOf t d (λ v. eqb v c.verifying) w more) where
-        pub up_found : more.found ≡ true → LevelOf t d (verifiers t level) 0 (told true 0)
-        up_found y = record { found = same true (any (rooted t d (verifiers t level)) t.certificates) (λ _. root) (λ _. tt); links = refl }
+      module _ {more : Option ℕ} (m : more ≡ level_of t d (λ v. eqb v c.verifying) w) where
+        pub up_found : more ≡ None → None ≡ level_of t d (verifiers t level) 0
+        up_found y =
+            level_rooted t d (verifiers t level) 0 (same true (any (rooted t d (verifiers t level)) t.certificates) (λ _. root) (λ _. tt))
           where
             wanted : (v : ℕ) → T (eqb v c.verifying) → T (verifiers t level v)
             wanted v x =
@@ -288,21 +317,22 @@ module _ (t : Trust) (d : ℕ) where
 
             root : T (any (rooted t d (verifiers t level)) t.certificates)
             root =
-                let o = any_out (rooted t d (λ v. eqb v c.verifying)) t.certificates (subst T (sym y ∙ m.found) tt) in
+                let o = any_out (rooted t d (λ v. eqb v c.verifying)) t.certificates (subst T (sym (level_root t d (λ v. eqb v c.verifying) w m y)) tt) in
                 any_in (rooted t d (verifiers t level)) o.mem (rooted_up (λ v. eqb v c.verifying) (verifiers t level) wanted o.it o.passes)
 
-        pub up_more : more.found ≡ false → Raising rest more.links
+        pub up_more : {u : ℕ} → more ≡ Some u → Raising rest u
         up_more y =
+            let found = level_some t d (λ v. eqb v c.verifying) w m y in
             record {
               asked = λ v. s.asked v || eqb v c.verifying;
               going = goes_to s.going nz e g;
               whole = λ v.
                   ap (λ b. (s.asked v || b) || verifiers t rest v) (eqb_turn v c.verifying)
                   ∙ taken (eqb c.verifying v) (s.asked v) (verifiers t rest v) (verifiers t level v) (next_key v);
-              rootless = rooted_or s.asked (λ v. eqb v c.verifying) ∙ ap₂ (λ a b. a || b) s.rootless (sym m.found ∙ y);
+              rootless = rooted_or s.asked (λ v. eqb v c.verifying) ∙ ap₂ (λ a b. a || b) s.rootless found.0;
               found =
-                  m.links
-                  ∙ ap₂ (λ b x. cond b 0 (bit_or x (word (linked t d (λ v. eqb v c.verifying)) t.certificates))) y s.found
+                  found.1
+                  ∙ ap (λ x. bit_or x (word (linked t d (λ v. eqb v c.verifying)) t.certificates)) s.found
                   ∙ linked_or s.asked (λ v. eqb v c.verifying);
             }
 
@@ -417,32 +447,34 @@ module _ (t : Trust) (d : ℕ) where
       any_same (reached n p) (λ c. eqb c.domain d && q c.key && good n t c)
       (λ c. ap (λ x. eqb c.domain d && x && good n t c) (h c.key)) t.certificates
 
-  module _ (p : ℕ → Bool) (r : Level) (s : LevelOf t d p 0 r) where
-    -- the verifying keys of the links that were found are those that the next level looks for
-    next_keys : r.found ≡ false → (v : ℕ) → above p v ≡ verifiers t r.links v
-    unfolding above led linked
-    next_keys z v =
-        let e = s.links ∙ ap (λ b. cond b 0 (bit_or 0 (word (linked t d p) t.certificates))) z ∙ or_zero_l (word (linked t d p) t.certificates) in
-        sym (ap (λ k. verifiers t k v) e ∙ word_any (linked t d p) (λ c. eqb c.verifying v) t.certificates)
+  module _ (p : ℕ → Bool) {r : Option ℕ} (q : r ≡ level_of t d p 0) where
+    pub climb_found : (n : ℕ) → n ≢ 0 → r ≡ None → 1 ≡ least n (λ m. reach m t d p)
+    climb_found n nz y =
+        least_one (λ m. reach m t d p) n nz (sym (reach_is 1 p p (λ v. refl)) ∙ reach_one p ∙ level_root t d p 0 q y)
 
-    pub climb_found : (n : ℕ) → n ≢ 0 → r.found ≡ true → 1 ≡ least n (λ m. reach m t d p)
-    climb_found n nz y = least_one (λ m. reach m t d p) n nz (sym (reach_is 1 p p (λ v. refl)) ∙ reach_one p ∙ sym s.found ∙ y)
+    module _ {w : ℕ} (y : r ≡ Some w) where
+      -- the verifying keys of the links that were found are those that the next level looks for
+      next_keys : (v : ℕ) → above p v ≡ verifiers t w v
+      unfolding above led linked
+      next_keys v =
+          let e = (level_some t d p 0 q y).1 ∙ or_zero_l (word (linked t d p) t.certificates) in
+          sym (ap (λ k. verifiers t k v) e ∙ word_any (linked t d p) (λ c. eqb c.verifying v) t.certificates)
 
-    pub climb_on : (n : ℕ) → n ≢ 0 → r.found ≡ false → (m : ℕ) → m ≡ least (n - 1) (λ k. reach k t d (verifiers t r.links))
-        → cond (eqb m 0) 0 (suc m) ≡ least n (λ k. reach k t d p)
-    climb_on n nz y m e =
-        let j : suc (n - 1) ≡ n = omega arith in
-        ap (λ k. cond (eqb k 0) 0 (suc k)) e
-        ∙ least_later (λ k. reach k t d p) (λ k. reach k t d (verifiers t r.links)) lifts never (n - 1)
-        ∙ ap (λ k. least k (λ k. reach k t d p)) j
-      where
-        lifts : (k : ℕ) → reach (suc k) t d p ≡ reach k t d (verifiers t r.links)
-        lifts k = sym (reach_is (suc k) p p (λ v. refl)) ∙ step k p (sym s.found ∙ y) ∙ reach_is k (above p) (verifiers t r.links) (next_keys y)
+      pub climb_on : (n : ℕ) → n ≢ 0 → (m : ℕ) → m ≡ least (n - 1) (λ k. reach k t d (verifiers t w))
+          → cond (eqb m 0) 0 (suc m) ≡ least n (λ k. reach k t d p)
+      climb_on n nz m e =
+          let j : suc (n - 1) ≡ n = omega arith in
+          ap (λ k. cond (eqb k 0) 0 (suc k)) e
+          ∙ least_later (λ k. reach k t d p) (λ k. reach k t d (verifiers t w)) lifts never (n - 1)
+          ∙ ap (λ k. least k (λ k. reach k t d p)) j
+        where
+          lifts : (k : ℕ) → reach (suc k) t d p ≡ reach k t d (verifiers t w)
+          lifts k = sym (reach_is (suc k) p p (λ v. refl)) ∙ step k p (level_some t d p 0 q y).0 ∙ reach_is k (above p) (verifiers t w) next_keys
 
-        never : reach 0 t d (verifiers t r.links) ≡ false
-        never =
-            sym (reach_is 0 (verifiers t r.links) (verifiers t r.links) (λ v. refl))
-            ∙ same (reaches 0 (verifiers t r.links)) false (λ x. never_zero (verifiers t r.links) x) (λ x. absurd x)
+          never : reach 0 t d (verifiers t w) ≡ false
+          never =
+              sym (reach_is 0 (verifiers t w) (verifiers t w) (λ v. refl))
+              ∙ same (reaches 0 (verifiers t w)) false (λ x. never_zero (verifiers t w) x) (λ x. absurd x)
 
 -- ---- the link count of a key
 

@@ -7,9 +7,9 @@ use native.Mathlib.Omega.{arith}
 use borrow.Author.Tests.{eq-eqb, ne_eqb}
 use Rattle.records.specs.{Phone.{Trust, in_domain, Phone, decode, encode, with_executables, executable_at, put_executable}, declared.Executable.Executable}
 use Rattle.records.specs.Frame.{Framed}
-use Rattle.chain.specs.{SlotWords.chained_in, Settling.{settled_in, settle_in, NextUnchained, DomainsKnown}}
+use Rattle.chain.specs.{SlotWords.{chained_in}, Settling.{settled_in, settle_in, DomainsKnown}}
 use Rattle.rules.specs.{Chains.chains_to, Effects.{settled, settle}}
-use Rattle.laws.proofs.{Accepts.T_true, Tests.{neqb→ne, by_test}, Tables.{executables, says, framed_as}, SlotSweeps.{Sweeping, sweep_goes_on, sweep_skips_to}}
+use Rattle.laws.proofs.{Accepts.T_true, Tests.{neqb→ne, by_test}, Tables.{executables, says, framed_as}, SlotSweeps.{Sweeping, sweep_goes_on, sweep_skips}}
 
 -- an executable that does not chain loses its domain, and any other is not touched
 module _ (n : ℕ) (u : Trust) {x y : Executable} (q : x ≡ y) {b : Bool} (e : b ≡ chained_in n u x) where
@@ -129,35 +129,24 @@ turns_written s s₁ s₂ k e₁ e₂ e₃ =
     ∙ ap (λ p. encode (settle_in 3 (settle_in 2 p))) (says (settle_in 1 (decode s)) e₁)
     ∙ ap encode (by_domains (decode s) k)
 
--- ---- from one executable that does not chain to the next
+-- ---- one executable after the other
 
 module _ (d : ℕ) (s₀ : List ℕ) where
-  abbrev Settled : List ℕ → ℕ → ℕ → Type 0
-  Settled s slots i = Sweeping executables (settled_in d (decode s₀).trust) s₀ s slots i
+  -- the executables before slot i are settled
+  abbrev pub Settling : List ℕ → ℕ → ℕ → Type 0
+  Settling s slots i = Sweeping executables (settled_in d (decode s₀).trust) s₀ s slots i
 
-  -- the executables before slot i are settled, and slot i does not chain
-  pub record Settling (s : List ℕ) (slots i : ℕ) : Type 0 where
-    pub swept : Settled s slots i
-    pub lost : i < slots → chained_in d (decode s₀).trust (executable_at (decode s) i) ≡ false
+  module _ {s : List ℕ} {slots i : ℕ} (z : Settling s slots i) where
+    same_trust : (decode s).trust ≡ (decode s₀).trust
+    same_trust = ap (λ p. p.trust) z.phone
 
-  pub same_trust : {s : List ℕ} {slots i : ℕ} → Settled s slots i → (decode s).trust ≡ (decode s₀).trust
-  same_trust z = ap (λ p. p.trust) z.phone
+    module _ (h : i < slots) {x : Executable} (q : x ≡ executable_at (decode s) i) {b : Bool} (e : b ≡ chained_in d (decode s).trust x) where
+      told : b ≡ chained_in d (decode s₀).trust x
+      told = e ∙ ap (λ t. chained_in d t x) same_trust
 
-  pub settling_next : {s : List ℕ} {slots : ℕ} (i r : ℕ) → Settled s slots i → NextUnchained d (decode s) i r → Settling s slots r
-  settling_next {s} {slots} i r z n =
-      let skipped =
-      sweep_skips_to executables (λ n. settled_in d (decode s₀).trust) i r n.behind (omega (arith, z.as_many, n.within))
-      (λ j lt le. settled_skipped d (decode s₀).trust refl (sym (told j true (n.passed j lt le))) refl) z in
-      record {
-        swept = skipped;
-        lost = λ h. told r false (n.here (omega (arith, z.as_many, h)));
-      }
-    where
-      told : (j : ℕ) (b : Bool) → chained_in d (decode s).trust (executable_at (decode s) j) ≡ b
-          → chained_in d (decode s₀).trust (executable_at (decode s) j) ≡ b
-      told j b h = ap (λ t. chained_in d t (executable_at (decode s) j)) (sym (same_trust z)) ∙ h
+      pub settling_skips : b ≡ true → Settling s slots (i + 1)
+      settling_skips y = sweep_skips executables _ z h (settled_skipped d (decode s₀).trust q told y)
 
-  pub settling_writes : {s s₁ : List ℕ} {slots i : ℕ} → Settling s slots i → i < slots → length s₁ ≡ length s
-      → s₁ ≡ encode (put_executable i (in_domain 0 (executable_at (decode s) i)) (decode s)) → Settled s₁ slots (i + 1)
-  settling_writes z h e w =
-      sweep_goes_on executables (λ n. settled_in d (decode s₀).trust) z.swept h e (settled_written d (decode s₀).trust refl (sym (z.lost h)) refl) w
+      pub settling_writes : b ≡ false → {s₁ : List ℕ} → length s₁ ≡ length s
+          → s₁ ≡ encode (put_executable i (in_domain 0 (executable_at (decode s) i)) (decode s)) → Settling s₁ slots (i + 1)
+      settling_writes y m w = sweep_goes_on executables _ z h m (settled_written d (decode s₀).trust q told y) w

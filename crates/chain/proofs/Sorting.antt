@@ -6,7 +6,7 @@ use borrow.Author.Tests.{eq-eqb, ne_eqb}
 use lib.{Dec.{T, eqb, eqb→eq}, ListN.length}
 use Rattle.records.specs.{Phone.{Seen, Trust, no_certificate}, declared.Certificate.Certificate}
 use Rattle.bits.specs.Bits.{set_bit}
-use Rattle.bits.proofs.WordLaws.{Built, built_none, built_skips, built_takes, built_all}
+use Rattle.bits.proofs.WordLaws.{Built, built_skips, built_takes, built_all}
 use Rattle.rules.specs.Chains.{valid_root, trusted_root, link}
 use Rattle.laws.proofs.Tests.{tests}
 use Rattle.chain.specs.SlotWords.{slot, within_domain, SortedAs}
@@ -38,9 +38,6 @@ module _ (t : Trust) (d : ℕ) where
   pub record Sorting (k n i : ℕ) : Type 0 where
     pub roots : Built (mine (trusted_root t.seen)) t.certificates k i
     pub links : Built (mine (link t.seen)) t.certificates n i
-
-  pub sort_begin : Sorting 0 0 0
-  sort_begin = record { roots = built_none _ _; links = built_none _ _ }
 
   pub sort_end : {k n i : ℕ} → Sorting k n i → length t.certificates ≤ i → SortedAs t d (record { roots = k; links = n })
   unfolding within_domain

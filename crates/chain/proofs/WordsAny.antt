@@ -1,10 +1,11 @@
 -- Words and `any`: what the slots of a word tell, in the words of the rules. Assumes nothing.
-use Prim.Native.Nat.{ℕ, ◌+◌, ◌-◌, ◌*◌, ◌/◌, ◌%◌, ◌^◌, ◌≤◌, ◌<◌}
+use Prim.Native.Nat.{ℕ, ◌+◌, ◌*◌, ◌/◌, ◌%◌, ◌^◌, ◌≤◌, ◌<◌}
 use mathlib.Core.{Bool.{Bool, true, false, cond, ◌&&◌, ◌||◌}, List.{List, [], ◌∷◌}, Logic.◌≢◌, Path.{◌≡◌, refl, ap₂}}
 use native.Mathlib.Omega.{arith}
 use lib.{Count.count_trailing_zeros, Dec.eqb, ListN.length}
 use Rattle.records.specs.{Phone.{Trust, no_certificate}, declared.Certificate.Certificate}
 use Rattle.bits.specs.SlotWord.{word, any_of, keep, less_lowest}
+use Rattle.bits.proofs.BitLaws.{one_shl}
 use Rattle.bits.proofs.WordLaws.{falls, at_lowest, any_here, any_stops, any_goes_on, keep_skips, keep_takes}
 use Rattle.rules.specs.Words.{any}
 use Rattle.chain.specs.SlotWords.{slot}
@@ -59,11 +60,8 @@ module _ {t : Trust} {v i : ℕ} (g : Going t v) (p : v ≢ 0) (e : i ≡ count_
   at_slot = at_lowest 64 t.certificates v i g.few p g.fits e
 
   module _ {u : ℕ} (h : u ≡ less_lowest 64 v) where
-    pub falls_to : u < v
-    falls_to = let f = falls 64 v (omega arith) in omega arith
-
     pub goes_to : Going t u
-    goes_to = record { few = g.few; fits = let f = falls_to in omega (arith, g.fits) }
+    goes_to = record { few = g.few; fits = omega (arith, g.fits, falls 64 v (omega arith)) }
 
   module _ (f : Certificate → Bool) {c : Certificate} (q : c ≡ slot t i) where
     pub some_here : any_of v f t.certificates ≡ (f c || any_of (less_lowest 64 v) f t.certificates)
@@ -79,5 +77,9 @@ module _ {t : Trust} {v i : ℕ} (g : Going t v) (p : v ≢ 0) (e : i ≡ count_
       pub found_skips : (a : ℕ) {w : ℕ} → a + keep v f t.certificates ≡ w → f c ≡ false → a + keep u f t.certificates ≡ w
       found_skips a {w} inv y = keep_skips 64 t.certificates v i g.few p g.fits e f no_certificate c q a w inv u h y
 
-      pub found_takes : (a : ℕ) {w : ℕ} → a + keep v f t.certificates ≡ w → f c ≡ true → (a + (v - u)) + keep u f t.certificates ≡ w
-      found_takes a {w} inv y = keep_takes 64 t.certificates v i g.few p g.fits e f no_certificate c q a w inv u h y
+      -- the bit of slot i, as it is written in the language
+      pub found_takes : (a : ℕ) {w : ℕ} → a + keep v f t.certificates ≡ w → f c ≡ true
+          → (a + 1 * 2 ^ i % 18446744073709551616) + keep u f t.certificates ≡ w
+      found_takes a {w} inv y =
+          rw (one_shl 64 i (let s = at_slot in omega (arith, g.few)))
+          (keep_takes 64 t.certificates v i g.few p g.fits e f no_certificate c q a w inv u h y)

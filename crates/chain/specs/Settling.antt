@@ -1,8 +1,7 @@
 -- Settling, a domain at a time. Definitions only.
-use Rattle.std.specs.Prelude.{ℕ, ◌≤◌, ◌<◌}
-use mathlib.Core.{Bool.{true, false, cond}, Path.◌≡◌, List.{map, Memᴰ}}
-use Rattle.std.specs.Prelude.{length}
-use Rattle.records.specs.{Phone.{Trust, Phone, with_executables, in_domain, executable_at}, declared.Executable.Executable}
+use Rattle.std.specs.Prelude.{ℕ, ◌≤◌}
+use mathlib.Core.{Bool.{cond}, List.{map, Memᴰ}}
+use Rattle.records.specs.{Phone.{Trust, Phone, with_executables, in_domain}, declared.Executable.Executable}
 use Rattle.chain.specs.SlotWords.{chained_in}
 
 -- an executable with domain d that no longer chains to it
@@ -11,13 +10,6 @@ settled_in d t x = cond (chained_in d t x) x (in_domain 0 x)
 
 unfoldable pub settle_in : ℕ → Phone → Phone
 settle_in d p = with_executables (map (settled_in d p.trust) p.executables) p
-
--- r is the first slot from `from` on whose executable does not chain to d though it has it, or the number of slots
-pub record NextUnchained (d : ℕ) (p : Phone) (from r : ℕ) : Type 0 where
-  pub behind : from ≤ r
-  pub within : r ≤ length p.executables
-  pub passed : (j : ℕ) → j < r → from ≤ j → chained_in d p.trust (executable_at p j) ≡ true
-  pub here : r < length p.executables → chained_in d p.trust (executable_at p r) ≡ false
 
 -- every executable has a domain from 0 to 3
 pub record DomainsKnown (p : Phone) : Type 0 where

@@ -1,11 +1,11 @@
 -- What the searches keep: slots as the bits of a word. Definitions only.
-use Rattle.std.specs.Prelude.{ℕ, suc, ◌+◌}
+use Rattle.std.specs.Prelude.{ℕ, suc, ◌+◌, Option, Some, None}
 use mathlib.Core.{Bool.{Bool, cond, not, ◌&&◌, ◌||◌}, Path.◌≡◌}
 use lib.{Bits.bit_or, Dec.eqb, ListN.get_or}
 use Rattle.records.specs.{Phone.{Trust, no_certificate}, declared.Certificate.Certificate, declared.Executable.Executable}
 use Rattle.bits.specs.SlotWord.{word, any_of}
 use Rattle.rules.specs.{Words.{any, find}, Chains.{trusted_root, link, good, chains_to}}
-use Rattle.chain.specs.{declared.GoodByDomain.GoodByDomain, declared.search.Sorted.Sorted, declared.search.Level.Level}
+use Rattle.chain.specs.{declared.GoodByDomain.GoodByDomain, declared.search.Sorted.Sorted}
 
 abbrev pub slot : Trust → ℕ → Certificate
 slot t i = get_or t.certificates i no_certificate
@@ -76,10 +76,9 @@ reach n t d p = any (λ c. eqb c.domain d && p c.key && good n t c) t.certificat
 abbrev pub verifiers : Trust → ℕ → ℕ → Bool
 verifiers t w v = any_of w (λ c. eqb c.verifying v) t.certificates
 
--- what a level tells: whether it has a trusted root, and where it has none its links, beside those that were there before
-pub record LevelOf (t : Trust) (d : ℕ) (p : ℕ → Bool) (before : ℕ) (r : Level) : Type 0 where
-  pub found : r.found ≡ any (rooted t d p) t.certificates
-  pub links : r.links ≡ cond r.found 0 (bit_or before (word (linked t d p) t.certificates))
+-- a level: none where it has a trusted root, at which the search ends, and else its links, beside those that were there before
+unfoldable pub level_of : Trust → ℕ → (ℕ → Bool) → ℕ → Option ℕ
+level_of t d p before = cond (any (rooted t d p) t.certificates) None (Some (bit_or before (word (linked t d p) t.certificates)))
 
 -- ---- the domain of a key
 

@@ -3,15 +3,16 @@
 
 mod search;
 
-ghost use Rattle.std.specs.Prelude.{◌<◌, ◌≤◌, length, ◌≡◌, T};
+ghost use Rattle.std.specs.Prelude.{◌<◌, ◌≤◌, length, not, ◌≡◌, T};
 ghost use Rattle.chain.specs.Breaks.{runs_out};
 ghost use Rattle.chain.specs.SlotWords.{IsGoodByDomain, GoodIn, good_slots, holder, slot};
 ghost use Rattle.rules.specs.AcceptedImage.{Keyed};
-ghost use Rattle.chain.specs.Settling.{DomainsKnown, NextUnchained, settle_in};
+ghost use Rattle.chain.specs.Settling.{DomainsKnown, settle_in};
 ghost use Rattle.records.specs.Frame.{Framed};
-ghost use Rattle.records.specs.Phone.{decode, encode};
+ghost use Rattle.records.specs.Phone.{decode, encode, executable_at};
 ghost use Rattle.rules.specs.ImageRules.{chained_fits, i7, i8};
-ghost use Rattle.rules.specs.Faults.{lowest, of_executables};
+ghost use Rattle.rules.specs.Faults.{of_executables};
+ghost use Rattle.sweep.specs.LowestBroken.{broken_at};
 ghost use Rattle.rules.specs.Chains.{chain_of, good, links};
 ghost use Rattle.rules.specs.Effects.{settle};
 ghost use Rattle.rules.specs.Words.{any};
@@ -27,7 +28,7 @@ struct GoodByDomain {
     third: u64,
 }
 
-// The link count of a signing key for a domain.
+// The link count of a signing key for a domain: 0 where there is no chain, as 01 tells it and `links` says it (`count_shortest`).
 pub fn links_of(s: &[u8], key: u32, domain: u8) -> u8
     requires { Framed s.now }
     ensures { result ≡ links (decode s.now).trust key domain }
@@ -63,15 +64,10 @@ fn domain_of(s: &[u8], key: u32) -> u8
     ensures { result ≡ (holder (decode s.now).trust key).domain }
 {
     let slots = image::certificate_slots(s);
-    let mut j: usize = 0;
-    while j < slots {
-        let c = image::certificate(s, j);
-        if c.key == key {
-            return c.domain;
-        }
-        j += 1;
+    match sweep::first(slots, |j| image::certificate(s, j).key == key) {
+        Some(j) => image::certificate(s, j).domain,
+        None => records::UNTRUSTED,
     }
-    0
 }
 
 // What a signing key chains to. All its records are of one domain, so the first tells it.
@@ -117,54 +113,30 @@ fn good_in(good: GoodByDomain, domain: u8) -> u64
     good.third
 }
 
-// Whether x chains to its domain, if it has one.
-fn chained_fits(s: &[u8], good: GoodByDomain, x: Executable) -> bool
-    requires framed { Framed s.now }
-    requires good_by_domain { IsGoodByDomain (decode s.now).trust good }
-    requires domain_bound { x.domain ≤ 3 }
-    ensures { result ≡ chained_fits (decode s.now).trust x }
-{
-    if x.domain == records::UNTRUSTED {
-        return true;
-    }
-    search::is_chained(s, x.domain, good_in(good, x.domain), x)
-}
-
-// What I8 asks: the lowest executable that does not chain to the domain that it has, or the number of slots where there is none. One sweep
-// for all three domains, which ends at the first that it finds, so that of an image that is refused no more is asked.
-pub fn first_unchained(s: &[u8]) -> usize
+// Whether executable i has a domain and does not chain to it.
+fn is_unchained(s: &[u8], good: GoodByDomain, i: usize) -> bool
     requires framed { Framed s.now }
     requires t { T (i7 (decode s.now)) }
-    ensures { result ≡ lowest (of_executables i8 (decode s.now)) (decode s.now).executables }
+    requires good_by_domain { IsGoodByDomain (decode s.now).trust good }
+    requires i_in_bounds { i < length (decode s.now).executables }
+    ensures { result ≡ not (chained_fits (decode s.now).trust (executable_at (decode s.now) i)) }
 {
-    let good = good_by_domain(s);
-    let slots = image::executable_slots(s);
-    let mut i: usize = 0;
-    while i < slots {
-        if !chained_fits(s, good, image::executable(s, i)) {
-            return i;
-        }
-        i += 1;
+    let x = image::executable(s, i);
+    if x.domain == records::UNTRUSTED {
+        return false;
     }
-    slots
+    !search::is_chained(s, x.domain, good_in(good, x.domain), x)
 }
 
-// The first executable from a slot on that has the domain and does not chain to it, or the number of slots where there is none.
-fn next_unchained(s: &[u8], domain: u8, good: u64, from: usize) -> usize
+// What I8 asks: the lowest executable that does not chain to the domain that it has, if there is one. One sweep for all three domains, which
+// ends at the first that it finds, so that of an image that is refused no more is asked.
+pub fn first_unchained(s: &[u8]) -> Option<usize>
     requires framed { Framed s.now }
-    requires from_in_bounds { from ≤ length (decode s.now).executables }
-    requires good_value { good ≡ good_slots (decode s.now).trust domain }
-    ensures { NextUnchained domain (decode s.now) from result }
+    requires t { T (i7 (decode s.now)) }
+    ensures { result ≡ broken_at (of_executables i8 (decode s.now)) (decode s.now).executables }
 {
-    let slots = image::executable_slots(s);
-    let mut i = from;
-    while i < slots {
-        if !search::is_chained(s, domain, good, image::executable(s, i)) {
-            return i;
-        }
-        i += 1;
-    }
-    slots
+    let good = good_by_domain(s);
+    sweep::first(image::executable_slots(s), |i| is_unchained(s, good, i))
 }
 
 // Takes the domain of each executable of one domain whose key no good slot has.
@@ -173,11 +145,10 @@ fn settle_by(s: &mut [u8], domain: u8, good: u64)
     requires good_value { good ≡ good_slots (decode s.old).trust domain }
     ensures { s.new ≡ encode (settle_in domain (decode s.old)) }
 {
-    let slots = image::executable_slots(s);
-    let mut i = next_unchained(s, domain, good, 0);
-    while i < slots {
-        image::set_domain(s, i, records::UNTRUSTED);
-        i = next_unchained(s, domain, good, i + 1);
+    for i in 0..image::executable_slots(s) {
+        if !search::is_chained(s, domain, good, image::executable(s, i)) {
+            image::set_domain(s, i, records::UNTRUSTED);
+        }
     }
 }
 
@@ -218,12 +189,9 @@ pub fn runs_out(s: &[u8], t: u32) -> bool
 {
     let slots = image::certificate_slots(s);
     let clock = image::clock(s);
-    let mut i: usize = 0;
-    while i < slots {
-        if is_running_out(clock, t, image::certificate(s, i)) {
-            return true;
-        }
-        i += 1;
-    }
-    false
+    sweep::first(
+        slots,
+        |i| is_running_out(clock, t, image::certificate(s, i)),
+    )
+    .is_some()
 }

@@ -5,13 +5,13 @@
 // are looked at, whatever the image: no path is followed, so nothing grows with their number.
 ghost use Rattle.std.specs.Prelude.{◌<◌, ◌^◌, suc, eqb, length, ◌&&◌, cond, ◌≡◌};
 ghost use Rattle.bits.specs.SlotWord.{any_of, keep};
-ghost use Rattle.chain.specs.SlotWords.{GoodBeyond, LevelOf, SortedAs, chained_in, good_slots, reach, verified_by, verifiers, within_domain};
+ghost use Rattle.chain.specs.SlotWords.{GoodBeyond, SortedAs, chained_in, good_slots, level_of, reach, verified_by, verifiers, within_domain};
 ghost use Rattle.records.specs.Frame.{Framed};
 ghost use Rattle.records.specs.Phone.{decode};
 ghost use Rattle.rules.specs.Chains.{good, link, trusted_root};
 ghost use Rattle.rules.specs.Words.{least};
 
-use bits::slots;
+use bits::slots::{self, Slots};
 use records::{Certificate, Executable, image};
 
 // "The limit is 4, root included".
@@ -21,13 +21,6 @@ pub const MOST_LINKS: u8 = 4;
 #[derive(Clone, Copy)]
 struct Sorted {
     roots: u64,
-    links: u64,
-}
-
-// What one level of the search back from a key found: a trusted root, or else its links.
-#[derive(Clone, Copy)]
-struct Level {
-    found: bool,
     links: u64,
 }
 
@@ -53,13 +46,10 @@ fn holds_key(s: &[u8], among: u64, key: u32) -> bool
     requires among_bound { among < 2 ^ length (decode s.now).trust.certificates }
     ensures { result ≡ any_of among (λ c. eqb c.key key) (decode s.now).trust.certificates }
 {
-    let mut left = among;
-    while left != 0 {
-        let i = slots::lowest(left);
+    for i in Slots(among) {
         if image::certificate(s, i).key == key {
             return true;
         }
-        left = slots::rest(left);
     }
     false
 }
@@ -69,25 +59,21 @@ fn sort(s: &[u8], domain: u8) -> Sorted
     requires { Framed s.now }
     ensures { SortedAs (decode s.now).trust domain result }
 {
-    let all = image::certificate_slots(s);
     let mut roots: u64 = 0;
     let mut links: u64 = 0;
-    let mut i: usize = 0;
-    while i < all {
-        let slot = i;
-        i += 1;
-        let c = image::certificate(s, slot);
+    for i in 0..image::certificate_slots(s) {
+        let c = image::certificate(s, i);
         if c.domain != domain {
             continue;
         }
         if trusted_root(s, c) {
-            roots = slots::with_slot(roots, slot);
+            roots = slots::with_slot(roots, i);
             continue;
         }
         if !is_link(s, c) {
             continue;
         }
-        links = slots::with_slot(links, slot);
+        links = slots::with_slot(links, i);
     }
     Sorted { roots, links }
 }
@@ -104,16 +90,12 @@ fn verified(s: &[u8], left: u64, fresh: u64) -> u64
         return 0;
     }
     let mut found: u64 = 0;
-    let mut next = left;
-    while next != 0 {
-        let here = next;
-        let i = slots::lowest(here);
-        next = slots::rest(here);
+    for i in Slots(left) {
         if !holds_key(s, fresh, image::certificate(s, i).verifying) {
             continue;
         }
-        // The bit that was taken from what is left.
-        found += here - next;
+        // No slot is given twice, so that its bit is not there yet.
+        found += 1 << i;
     }
     found
 }
@@ -171,67 +153,44 @@ fn has_key(domain: u8, key: u32, c: Certificate) -> bool
     (c.domain == domain) & (c.key == key)
 }
 
-// Whether a record of the domain with this key is a trusted root. Where none is, the links with it join those of the level: every record
-// is looked at, since a good one may stand anywhere.
-fn sweep(s: &[u8], domain: u8, key: u32, level: u64) -> Level
+// The level of one key: none where a record of the domain with this key is a trusted root, and else the links with it, which join those of
+// the level. Every record is looked at, since a good one may stand anywhere.
+fn level_of(s: &[u8], domain: u8, key: u32, level: u64) -> Option<u64>
     requires { Framed s.now }
-    ensures { LevelOf (decode s.now).trust domain (λ v. eqb v key) level result }
+    ensures { result ≡ level_of (decode s.now).trust domain (λ v. eqb v key) level }
 {
-    let all = image::certificate_slots(s);
-    let mut links = level;
-    let mut i: usize = 0;
-    while i < all {
-        let here = i;
-        i += 1;
-        let c = image::certificate(s, here);
+    let mut found = level;
+    for i in 0..image::certificate_slots(s) {
+        let c = image::certificate(s, i);
         if !has_key(domain, key, c) {
             continue;
         }
         if trusted_root(s, c) {
-            return Level {
-                found: true,
-                links: 0,
-            };
+            return None;
         }
         if !is_link(s, c) {
             continue;
         }
-        links = slots::with_slot(links, here);
+        found = slots::with_slot(found, i);
     }
-    Level {
-        found: false,
-        links,
-    }
+    Some(found)
 }
 
 // The next level: what the verifying keys of these links lead to. A key that a slot of it has already is not looked for again.
-fn up(s: &[u8], domain: u8, level: u64) -> Level
+fn up(s: &[u8], domain: u8, level: u64) -> Option<u64>
     requires framed { Framed s.now }
     requires level_bound { level < 2 ^ length (decode s.now).trust.certificates }
-    ensures { LevelOf (decode s.now).trust domain (verifiers (decode s.now).trust level) 0 result }
+    ensures { result ≡ level_of (decode s.now).trust domain (verifiers (decode s.now).trust level) 0 }
 {
     let mut links: u64 = 0;
-    let mut left = level;
-    while left != 0 {
-        let i = slots::lowest(left);
-        left = slots::rest(left);
+    for i in Slots(level) {
         let key = image::certificate(s, i).verifying;
         if holds_key(s, links, key) {
             continue;
         }
-        let more = sweep(s, domain, key, links);
-        if more.found {
-            return Level {
-                found: true,
-                links: 0,
-            };
-        }
-        links = more.links;
+        links = level_of(s, domain, key, links)?;
     }
-    Level {
-        found: false,
-        links,
-    }
+    Some(links)
 }
 
 // A count of links with one more below them, where there is a chain.
@@ -254,11 +213,10 @@ fn climb(s: &[u8], domain: u8, level: u64, n: u8) -> u8
     if n == 0 {
         return 0;
     }
-    let next = up(s, domain, level);
-    if next.found {
-        return 1;
+    match up(s, domain, level) {
+        None => 1,
+        Some(links) => one_more(climb(s, domain, links, n - 1)),
     }
-    one_more(climb(s, domain, next.links, n - 1))
 }
 
 // How many levels back from a key the first trusted root stands, and 0 where none is within n.
@@ -269,9 +227,8 @@ pub fn links_within(s: &[u8], domain: u8, key: u32, n: u8) -> u8
     if n == 0 {
         return 0;
     }
-    let first = sweep(s, domain, key, 0);
-    if first.found {
-        return 1;
+    match level_of(s, domain, key, 0) {
+        None => 1,
+        Some(links) => one_more(climb(s, domain, links, n - 1)),
     }
-    one_more(climb(s, domain, first.links, n - 1))
 }

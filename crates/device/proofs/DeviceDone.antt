@@ -6,10 +6,16 @@ use lib.Dec.{T}
 use Rattle.records.specs.{Phone.{with_card, decode, encode}, Frame.Framed, declared.Event.Event}
 use Rattle.rules.specs.{declared.Answer.Answer, Words.any, AcceptedImage.AcceptedImage, Forms.with_kind, Codes.code_of}
 use Rattle.rules.specs.{Effects.{marked_operator, effect, changed, settle, tick, card_rule, card_in, card_out, power_up}, Step.{answer_done, done}}
+use Rattle.std.specs.Prelude.{Ok}
 use Rattle.chain.specs.{Breaks.runs_out, Settling.DomainsKnown}
-use Rattle.handling.specs.Handled.{Handled, Settled}
-use Rattle.handling.proofs.Handles.{handled_still, handled_settled, settle_framed, settle_known, said_still, accepted_phone}
+use Rattle.handling.specs.{Plans.plan, Handled.{Tried, Settled}}
+use Rattle.handling.proofs.PlanLaws.{on_code}
+use Rattle.handling.proofs.Handles.{tried_still, tried_settled, settle_framed, settle_known, said_still, accepted_phone}
 use Rattle.device.proofs.TimeAndCard.{tick_still, card_idle, card_still, power_up_programs}
+
+-- nothing stands against an event of kind k, by its decision
+abbrev pub Granted : ℕ → List ℕ → Event → Type 0
+Granted k l e = Ok (tt {0}) ≡ plan (code_of (decode l) (with_kind k e)) (tt {0})
 
 -- the effect of an event of kind k is written as l₁, and broken tells whether a chain can have broken
 pub record Effected (k : ℕ) (l : List ℕ) (e : Event) (l₁ : List ℕ) (broken : Bool) : Type 0 where
@@ -26,8 +32,8 @@ module _ {k : ℕ} {l : List ℕ} {e : Event} {l₁ : List ℕ} {broken : Bool} 
     (settle_known l (with_kind k e) f.image f.accepted f.programs, λ h. said_still l (with_kind k e) f.image (f.still h)),
   )
 
-  pub settle_ends : code_of (decode l) (with_kind k e) ≡ 0 → {x : Answer} {l₂ : List ℕ} → Settled l₁ x l₂ → Handled l (with_kind k e) x l₂
-  settle_ends z s = handled_settled l (with_kind k e) f.image z f.told s
+  pub settle_ends : Granted k l e → {x : Answer} {l₂ : List ℕ} → Settled l₁ x l₂ → Tried l (with_kind k e) (Ok x) l₂
+  settle_ends z s = tried_settled l (with_kind k e) f.image (on_code (code_of (decode l) (with_kind k e)) tt {r = Ok tt} z refl) f.told s
 
 -- ---- of each kind
 
@@ -62,10 +68,11 @@ module _ {l : List ℕ} (e : Event) (a : AcceptedImage l) {l₁ : List ℕ} wher
   }
 
   -- with no mark to fall there is nothing to settle
-  pub put_in_only : code_of (decode l) (with_kind 2 e) ≡ 0 → {b : Bool} → b ≡ any marked_operator (decode l).trust.certificates → not b ≡ true
-      → {x : Answer} → x ≡ answer_done 0 0 → l₁ ≡ encode (with_card e.second (decode l)) → Handled l (with_kind 2 e) x l₁
+  pub put_in_only : Granted 2 l e → {b : Bool} → b ≡ any marked_operator (decode l).trust.certificates → not b ≡ true
+      → {x : Answer} → x ≡ answer_done 0 0 → l₁ ≡ encode (with_card e.second (decode l)) → Tried l (with_kind 2 e) (Ok x) l₁
   unfolding done
-  put_in_only z q h t w =
+  put_in_only d q h t w =
       let ok = accepted_phone l a in
+      let z = on_code (code_of (decode l) (with_kind 2 e)) tt {r = Ok tt} d refl in
       let unmarked : T (not (any marked_operator (decode l).trust.certificates)) = subst T (sym h ∙ ap not q) tt in
-      handled_still z (card_still (decode l) ok e z unmarked) t (w ∙ ap encode (sym (card_idle (decode l) ok e unmarked)))
+      tried_still z (card_still (decode l) ok e z unmarked) t (w ∙ ap encode (sym (card_idle (decode l) ok e unmarked)))

@@ -1,6 +1,6 @@
 -- The text of the answers: what is written of one, and line behind line. Assumes nothing.
 use Prim.Native.Nat.{ℕ, ◌+◌, ◌-◌, ◌/◌, ◌%◌, ◌≤◌, ◌<◌}
-use mathlib.Core.{Bool.{Bool, true, false, cond}, List.{List, [], ◌++◌, append-nil}, Logic.◌≢◌, Path.{◌≡◌, refl, sym, ap, ap₂, ◌∙◌}}
+use mathlib.Core.{Bool.{Bool, true, false, cond}, List.{List, ◌++◌, append-nil}, Logic.◌≢◌, Path.{◌≡◌, refl, sym, ap, ap₂, ◌∙◌}}
 use native.{Mathlib.Nat.zero-add, Mathlib.Numerals.add-one, Mathlib.Omega.arith}
 use borrow.Author.Tests.{eq-eqb, ne_eqb, le-leb, lt-leb}
 use lib.{Dec.eqb, ListN.{length, get_or, take, drop, length-append, length-drop, take-append-drop, drop_of_length-le}}
@@ -8,31 +8,19 @@ use lib.Seq.{length-take-le, take_all, take-append_seam, drop-cons}
 use Rattle.octets.specs.Octets.{put}
 use Rattle.rules.specs.declared.Answer.{Answer}
 use Rattle.records.proofs.Puts.{put_right}
-use Rattle.stream.specs.{PrintedLines.{line, longest_line, heading}, Refusal.image_refused}
+use Rattle.stream.specs.{PrintedLines.{longest_line, heading}, Refusal.image_refused}
 use Rattle.stream.proofs.JoinedTexts.{Put, then, line_small, refusal_small}
 use Rattle.differences.specs.WrittenAnswers.{answer_of, told_line, opened_line, kind_at, text_room, lines_behind, written}
 
 -- ---- one answer
 
--- by what the number tells, where a is its parts
-module _ (opened n kind t : ℕ) {a : Answer} (e : a ≡ answer_of t) where
-  pub told_answer : t / 16777216 ≡ 0 → told_line opened n kind t ≡ line n kind a
-  unfolding told_line
-  told_answer h = rw (eq-eqb (t / 16777216) 0 h) (ap (line n kind) (sym e))
-
-  pub told_before : t / 16777216 ≢ 0 → t ≡ opened → told_line opened n kind t ≡ []
-  unfolding told_line
-  told_before h k = rw (ne_eqb (t / 16777216) 0 h, eq-eqb t opened k) refl
-
-  pub told_number : t / 16777216 ≢ 0 → t ≢ opened → t % 16777216 ≢ 65536 → told_line opened n kind t ≡ line t kind a
-  unfolding told_line
-  told_number h k m = rw (ne_eqb (t / 16777216) 0 h, ne_eqb t opened k, ne_eqb (t % 16777216) 65536 m) (ap (line t kind) (sym e))
-
-  pub told_refusal : t / 16777216 ≢ 0 → t ≢ opened → t % 16777216 ≡ 65536 → told_line opened n kind t ≡ image_refused a.rule a.offset
-  unfolding told_line
-  told_refusal h k m =
-      rw (ne_eqb (t / 16777216) 0 h, ne_eqb t opened k, eq-eqb (t % 16777216) 65536 m)
-      (ap (λ (a : Answer). image_refused a.rule a.offset) (sym e))
+-- a refused image, where a is the parts of what is told
+pub told_refusal : (opened n kind t : ℕ) {a : Answer} → a ≡ answer_of t → t / 16777216 ≢ 0 → t ≢ opened → t % 16777216 ≡ 65536
+    → told_line opened n kind t ≡ image_refused a.rule a.offset
+unfolding told_line
+told_refusal opened n kind t e h k m =
+    rw (ne_eqb (t / 16777216) 0 h, ne_eqb t opened k, eq-eqb (t % 16777216) 65536 m)
+    (ap (λ (a : Answer). image_refused a.rule a.offset) (sym e))
 
 -- a text that is put at the start of what lies from i on
 pub put_behind : (l : List ℕ) (i : ℕ) (text : List ℕ) {s : List ℕ} {n : ℕ} → i ≤ length l
@@ -61,14 +49,6 @@ told_small opened n kind t =
     (short (eqb (t % 16777216) 65536) _ _ (omega (arith, refusal_small a.rule a.offset)) (line_small t kind a)))
 
 -- ---- what opening told
-
-pub opened_nothing : (t : ℕ) → t ≡ 0 → opened_line t ≡ []
-unfolding opened_line
-opened_nothing t e = rw (eq-eqb t 0 e) refl
-
-pub opened_told : (t : ℕ) → t ≢ 0 → opened_line t ≡ told_line 0 0 0 t
-unfolding opened_line
-opened_told t e = rw (ne_eqb t 0 e) refl
 
 pub opened_small : (t : ℕ) → length (opened_line t) ≤ longest_line
 unfolding opened_line

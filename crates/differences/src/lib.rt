@@ -20,6 +20,13 @@ pub enum Way {
     Steps,
 }
 
+// A stored case by its name, and the way that it goes.
+#[derive(Clone, Copy)]
+pub struct Case<'a> {
+    pub name: &'a [u8],
+    pub way: Way,
+}
+
 fn say(text: &[u8]) {
     io::write_all(STDOUT, text);
 }
@@ -47,10 +54,11 @@ pub fn answer_of(told: u64) -> Answer
 
 // The line of the n-th event or, where a rule and a byte are told, that of a refused image. That is told the same at every
 // event, and written once. An answer that is neither shows by its number.
+#[tactic(auto, using(octets::proofs::ByteLaws::put_none), unfolding(crate::specs::WrittenAnswers::told_line))]
 fn put_told(got: &mut [u8], at: usize, opened: u64, n: u64, kind: u8, told: u64) -> usize
     requires { at + longest_line ≤ length got.old }
-    ensures got_after { got.new ≡ put got.old at (told_line opened n kind told) }
-    ensures value { result ≡ at + length (told_line opened n kind told) }
+    ensures { (got.new ≡ put got.old at (told_line opened n kind told))
+        × (result ≡ at + length (told_line opened n kind told)) }
 {
     let a = answer_of(told);
     if told >> 24 == 0 {
@@ -66,10 +74,10 @@ fn put_told(got: &mut [u8], at: usize, opened: u64, n: u64, kind: u8, told: u64)
 }
 
 // What opening tells of an image that is refused.
+#[tactic(auto, using(octets::proofs::ByteLaws::put_none), unfolding(crate::specs::WrittenAnswers::opened_line))]
 fn put_opened(got: &mut [u8], at: usize, opened: u64) -> usize
     requires { at + longest_line ≤ length got.old }
-    ensures got_after { got.new ≡ put got.old at (opened_line opened) }
-    ensures value { result ≡ at + length (opened_line opened) }
+    ensures { (got.new ≡ put got.old at (opened_line opened)) × (result ≡ at + length (opened_line opened)) }
 {
     if opened == 0 {
         return at;
@@ -97,13 +105,11 @@ fn write_answers(got: &mut [u8], opened: u64, events: &[u8], told: &[u64]) -> us
 {
     let headed = stream::put_heading(got);
     let mut at = put_opened(got, headed, opened);
-    let mut i = 0;
-    while i < told.len() {
+    for (i, t) in told.iter().enumerate() {
         if got.len() < at + stream::LONGEST_LINE {
             return at;
         }
-        at = put_told(got, at, opened, i as u64 + 1, kind_of(events, i), told[i]);
-        i += 1;
+        at = put_told(got, at, opened, i as u64 + 1, kind_of(events, i), *t);
     }
     at
 }
@@ -118,32 +124,17 @@ fn say_way(way: Way) {
     }
 }
 
-// Says something of a case, and answers true. What is written on a descriptor is the system's.
-pub fn tell_case(name: &[u8], way: Way, what: &[u8]) -> bool
-    ensures { result ≡ true }
-{
-    say(b"case ");
-    say(name);
-    say_way(way);
-    say(what);
-    true
-}
-
 // The first place at which two buffers differ, or the shorter one's end.
 fn first_difference(a: &[u8], b: &[u8]) -> usize
     ensures { FirstDifference a.now b.now result }
 {
-    let mut i = 0;
-    while i < a.len() {
-        if b.len() <= i {
-            return i;
-        }
+    let shorter = a.len().min(b.len());
+    for i in 0..shorter {
         if a[i] != b[i] {
             return i;
         }
-        i += 1;
     }
-    i
+    shorter
 }
 
 // A line of a text: which it is, the first one counted 1, and where it begins.
@@ -153,35 +144,19 @@ struct Line {
     start: usize,
 }
 
-// The line behind byte i, which is c, from that before it.
-fn next_line(line: Line, i: usize, c: u8) -> Line
-    requires { (line.number ≤ i + 1) × (line.start ≤ i) × (i < 65536) }
-    ensures { (result.number ≤ i + 2) × (result.start ≤ i + 1) }
-{
-    if c == b'\n' {
-        return Line {
-            number: line.number + 1,
-            start: i + 1,
-        };
-    }
-    line
-}
-
 // The line that byte `at` of a text is in.
 fn line_of(text: &[u8], at: usize) -> Line
     requires { (at ≤ length text.now) × (at ≤ 65536) }
     ensures { result.start ≤ at }
 {
-    let mut line = Line {
-        number: 1,
-        start: 0,
-    };
-    let mut i = 0;
-    while i < at {
-        line = next_line(line, i, text[i]);
-        i += 1;
+    let before = &text[..at];
+    Line {
+        number: before.iter().filter(|c| **c == b'\n').count() + 1,
+        start: before
+            .iter()
+            .rposition(|c| *c == b'\n')
+            .map_or(0, |i| i + 1),
     }
-    line
 }
 
 // The first place from a place on where a byte stands, or the end.
@@ -192,14 +167,12 @@ pub fn find(text: &[u8], from: usize, b: u8) -> usize
     ensures none_before { (k : ℕ) → from ≤ k → k < result → slice_index text.now k ≢ b }
     ensures there { result < length text.now → slice_index text.now result ≡ b }
 {
-    let mut i = from;
-    while i < text.len() {
+    for i in from..text.len() {
         if text[i] == b {
             return i;
         }
-        i += 1;
     }
-    i
+    text.len()
 }
 
 fn say_line(text: &[u8], start: usize)
@@ -214,11 +187,11 @@ fn say_line(text: &[u8], start: usize)
 }
 
 // The line of what would be written that byte `at` is in, and what is stored in its place.
-fn tell_line(name: &[u8], way: Way, got: &[u8], want: &[u8], at: usize)
+fn tell_line(case: Case<'_>, got: &[u8], want: &[u8], at: usize)
     requires { (at ≤ length got.now) × (at ≤ length want.now) × (at ≤ 65536) }
 {
     let line = line_of(got, at);
-    tell_case(name, way, b" line ");
+    case.tell(b" line ");
     say_number(line.number as u64);
     say(b": got ");
     say_line(got, line.start);
@@ -228,20 +201,15 @@ fn tell_line(name: &[u8], way: Way, got: &[u8], want: &[u8], at: usize)
 }
 
 // Whether what would be written is not what is stored; the first line that differs is said.
-fn text_differs(name: &[u8], way: Way, got: &[u8], want: &[u8]) -> bool
+fn text_differs(case: Case<'_>, got: &[u8], want: &[u8]) -> bool
     requires { length got.now ≤ 65536 }
     ensures { Differ got.now want.now result }
 {
-    let at = first_difference(got, want);
-    if at < got.len() {
-        tell_line(name, way, got, want, at);
-        return true;
+    if got == want {
+        return false;
     }
-    if at < want.len() {
-        tell_line(name, way, got, want, at);
-        return true;
-    }
-    false
+    tell_line(case, got, want, first_difference(got, want));
+    true
 }
 
 // ---- the image afterwards
@@ -291,45 +259,47 @@ fn tell_values(got: u64, want: u64) {
     say(b"\n");
 }
 
-fn tell_bytes(got: u8, want: u8) {
-    tell_values(got as u64, want as u64);
-}
+// ---- a case
 
-// Whether the image is not as expected; its length is said, or its first byte that differs, by its record.
-pub fn image_differs(name: &[u8], way: Way, image: &[u8], want: &[u8]) -> bool
-    ensures { Differ image.now want.now result }
-{
-    if image.len() != want.len() {
-        tell_case(name, way, b" image length ");
-        tell_values(image.len() as u64, want.len() as u64);
-        return true;
+impl Case<'_> {
+    // Says something of the case, and answers true. What is written on a descriptor is the system's.
+    pub fn tell(self, what: &[u8]) -> bool
+        ensures { result ≡ true }
+    {
+        say(b"case ");
+        say(self.name);
+        say_way(self.way);
+        say(what);
+        true
     }
-    let at = first_difference(image, want);
-    if at == image.len() {
-        return false;
+
+    // Whether the image is not as expected; its length is said, or its first byte that differs, by its record.
+    pub fn image_differs(self, image: &[u8], want: &[u8]) -> bool
+        ensures { Differ image.now want.now result }
+    {
+        if image == want {
+            return false;
+        }
+        if image.len() != want.len() {
+            self.tell(b" image length ");
+            tell_values(image.len() as u64, want.len() as u64);
+            return true;
+        }
+        let at = first_difference(image, want);
+        self.tell(b" image");
+        tell_part(image, at);
+        say(b" is ");
+        tell_values(u64::from(image[at]), u64::from(want[at]));
+        true
     }
-    tell_case(name, way, b" image");
-    tell_part(image, at);
-    say(b" is ");
-    tell_bytes(image[at], want[at]);
-    true
-}
 
-// ---- the answers
-
-// Whether what would be written of the answers is not what is stored; the first line that differs is said.
-pub fn answers_differ(
-    name: &[u8],
-    way: Way,
-    opened: u64,
-    events: &[u8],
-    told: &[u64],
-    want: &[u8],
-) -> bool
-    requires { length told.now ≤ 4096 }
-    ensures { Differ (written opened events.now told.now) want.now result }
-{
-    let mut got = io::large_buffer();
-    let end = write_answers(&mut got, opened, events, told);
-    text_differs(name, way, &got[..end], want)
+    // Whether what would be written of the answers is not what is stored; the first line that differs is said.
+    pub fn answers_differ(self, opened: u64, events: &[u8], told: &[u64], want: &[u8]) -> bool
+        requires { length told.now ≤ 4096 }
+        ensures { Differ (written opened events.now told.now) want.now result }
+    {
+        let mut got = io::large_buffer();
+        let end = write_answers(&mut got, opened, events, told);
+        text_differs(self, &got[..end], want)
+    }
 }

@@ -1,53 +1,44 @@
 -- From the handlers to one step: the kind and the actor of an event, its length, and the image it meets. Assumes nothing.
 use Prim.Native.Nat.{ℕ, zero, suc, ◌≤◌, ◌<◌}
-use mathlib.Core.{Bool.{Bool, true, false, cond, not, ◌&&◌}, List.{List, [], ◌∷◌}, Logic.◌≢◌, Path.{◌≡◌, refl, sym, ap, ◌∙◌, subst}}
+use mathlib.Core.{Bool.{Bool, true, false, cond, not, ◌&&◌}, List.{List}, Logic.◌≢◌, Path.{◌≡◌, refl, sym, ap, ◌∙◌, subst}}
 use native.Mathlib.Omega.{arith}
 use borrow.Author.Tests.{ne_eqb, lt-leb}
 use lib.{Dec.{eqb, leb}, ListN.{length, get_or, get_or-eq_default}}
 use Rattle.octets.proofs.ByteLaws.{Bytes}
 use Rattle.records.specs.{Sizes.event_size, Layout.event_read, Phone.{Phone, decode, encode}, declared.Event.Event}
 use Rattle.records.proofs.RoundTrip.{frame}
-use Rattle.rules.specs.{declared.Answer.Answer, Words.first, declared.Fault.Fault, ImageRules.accepted, Faults.fault}
+use Rattle.rules.specs.{declared.Answer.Answer, Words.first, ImageRules.accepted}
 use Rattle.rules.specs.{Forms.{with_kind, forms, no_form, malformed}, Codes.{code_of, code}, Effects.changed}
 use Rattle.rules.specs.{Step.{Outcome, refused, opened, refusal, done, step}, AcceptedImage.AcceptedImage}
-use Rattle.laws.proofs.{Accepts.accepted_out, Where.{fault_refused, opened_broken}, Promise.accepted_image}
+use Rattle.laws.proofs.{Accepts.accepted_out, Promise.accepted_image}
 use Rattle.keeping.proofs.Bytes.{code_whole, step_refused, accepted_step, refusal_cases, never_one}
-use Rattle.events.specs.Stepped.{Stepped, SteppedAccepted}
-use Rattle.handling.specs.Handled.{told, left, Handled}
-use Rattle.handling.proofs.Handles.{handled_refused}
+use Rattle.events.specs.{Stepped.{Stepped, SteppedAccepted}, Telling.answer_of}
+use Rattle.std.specs.Prelude.{Result, Ok, Err}
+use Rattle.handling.specs.{declared.Refusal.Refusal, Handled.{told, left, Handled, Tried}}
+use Rattle.handling.proofs.{PlanLaws.plan_refused, Handles.{tried_refused, handled_ok, handled_err}}
 
 -- ---- the kind and the actor
 
--- handled as one of its own kind
-of_its_kind : (l : List ℕ) (e : Event) (k : ℕ) (r : Answer) (l' : List ℕ) → e.kind ≡ k → Handled l (with_kind k e) r l' → Handled l e r l'
-of_its_kind l e k r l' h = subst (λ n. Handled l (with_kind n e) r l') (sym h)
+-- what is told of what a handler answered is what it promised
+tried_told : {l : List ℕ} {e : Event} {l' : List ℕ} (r : Result Answer Refusal) → Tried l e r l' → {x : Answer} → x ≡ answer_of r → Handled l e x l'
+tried_told {l} {e} {l'} (Ok y) t q = subst (λ x. Handled l e x l') (sym q) (handled_ok t refl)
+tried_told (Err why) t q = handled_err t refl q
 
--- an event that is read after its actor and its kind
+-- e is an event that is read after its actor and its kind: the actor is one that there is, and it is tried as one of its own kind
 module _ (v : List ℕ) {e : Event} (q : e ≡ event_read v 0) where
   pub low_actor : {n : ℕ} → n ≡ (event_read v 0).actor → n ≤ 4 → e.actor < 5
   low_actor a h = let b = ap (λ e. e.actor) q in omega arith
 
-  pub read_of_kind : {l : List ℕ} (k : ℕ) {n : ℕ} {r : Answer} {l' : List ℕ} → n ≡ (event_read v 0).kind → n ≡ k
-      → Handled l (with_kind k e) r l' → Handled l (event_read v 0) r l'
-  read_of_kind {l} k {n} {r} {l'} i h d = subst (λ e. Handled l e r l') q (of_its_kind l e k r l' (ap (λ e. e.kind) q ∙ sym i ∙ h) d)
-
--- n is none of the numbers
-abbrev pub NoneOf : ℕ → List ℕ → Type 0
-NoneOf n [] = Unit {0}
-NoneOf n (k ∷ l) = NoneOf n l × (n ≢ k)
-
--- the numbers from m down to 1
-abbrev pub down_from : ℕ → List ℕ
-down_from zero = []
-down_from (suc m) = suc m ∷ down_from m
-
-above : (n m : ℕ) → n ≢ 0 → NoneOf n (down_from m) → m < n
-above n zero z h = omega arith
-above n (suc m) z h = let r = above n m z h.0 in let d = h.1 in omega arith
+  pub read_of_kind : {l : List ℕ} (k : ℕ) {n : ℕ} {x : Answer} {r : Result Answer Refusal} {l' : List ℕ} → x ≡ answer_of r → n ≡ (event_read v 0).kind → n ≡ k
+      → Tried l (with_kind k e) r l' → Handled l (event_read v 0) x l'
+  read_of_kind {l} k {n} {x} {r} {l'} t i h d =
+      let own : with_kind k e ≡ event_read v 0 = ap (λ n. with_kind n e) (sym (ap (λ e. e.kind) q ∙ sym i ∙ h)) ∙ q in
+      subst (λ e. Handled l e x l') own (tried_told r d t)
 
 -- no kind but 1 to 16 has a form
-no_kind : (k : ℕ) → NoneOf k (0 ∷ down_from 16) → get_or forms k no_form ≡ no_form
-no_kind k h = get_or-eq_default forms no_form {n = k} (above k 16 h.1 h.0)
+no_kind : (k : ℕ) → (k ≢ 0 → 16 < k) → get_or forms k no_form ≡ no_form
+no_kind zero h = refl
+no_kind (suc k) h = get_or-eq_default forms no_form {n = suc k} (let above = h (λ z. omega arith) in omega arith)
 
 no_form_code : (p : Phone) (e : Event) → get_or forms e.kind no_form ≡ no_form → 2 ≡ code_of p e
 unfolding code_of first malformed no_form
@@ -58,17 +49,17 @@ no_form_code p e h = let m : malformed p e ≡ true = ap (λ x. not (leb e.actor
     never false = refl
 
 -- n is the kind that was read
-module _ {l : List ℕ} {e : Event} where
-  pub no_such_kind : {n : ℕ} → n ≡ e.kind → NoneOf n (0 ∷ down_from 16) → {x : Answer} → x ≡ refused 2 → Handled l e x l
-  no_such_kind {n} i h =
-      handled_refused (no_form_code (decode l) e (ap (λ n. get_or forms n no_form) (sym i) ∙ no_kind n h)) (λ z. omega arith)
+module _ {l : List ℕ} {e : Event} {x : Answer} (t : x ≡ refused 2) where
+  malformed_handled : 2 ≡ code_of (decode l) e → Handled l e x l
+  malformed_handled q =
+      handled_err (tried_refused (tt {0}) {r = Err Refusal.Malformed} (plan_refused (code_of (decode l) e) (tt {0}) (omega arith) q) refl) refl t
 
-  pub kind_zero : {n : ℕ} → n ≡ e.kind → n ≡ 0 → {x : Answer} → x ≡ refused 2 → Handled l e x l
-  kind_zero i k = handled_refused (no_form_code (decode l) e (ap (λ n. get_or forms n no_form) (sym i ∙ k))) (λ z. omega arith)
+  pub no_such_kind : {n : ℕ} → n ≡ e.kind → (n ≢ 0 → 16 < n) → Handled l e x l
+  no_such_kind {n} i h = malformed_handled (no_form_code (decode l) e (ap (λ n. get_or forms n no_form) (sym i) ∙ no_kind n h))
 
-  pub no_such_actor : 4 < e.actor → {x : Answer} → x ≡ refused 2 → Handled l e x l
+  pub no_such_actor : 4 < e.actor → Handled l e x l
   unfolding code_of first malformed
-  no_such_actor h = handled_refused (rw (lt-leb e.actor 4 h)) (λ z. omega arith)
+  no_such_actor h = malformed_handled (rw (lt-leb e.actor 4 h))
 
 -- ---- the length, and the image
 
@@ -108,10 +99,9 @@ module _ (l v : List ℕ) where
       record { answer = q ∙ ap (refusal l) c ∙ sym (ap (λ o. o.answer) s); image = sym (ap (λ o. o.image) s) }
 
   -- an image that is not accepted
-  pub broken_stepped : (f : Fault) → f ≡ fault l → f.rule ≢ 0 → (x : Answer) → x ≡ opened l → Stepped l v x l
-  unfolding code first refusal
-  broken_stepped f o h x q =
-      refused_stepped 1 (rw (fault_refused l o h)) (λ z. omega arith) x (q ∙ opened_broken l o h)
+  pub broken_stepped : accepted l ≡ false → (x : Answer) → x ≡ opened l → Stepped l v x l
+  unfolding code first refusal opened
+  broken_stepped h x q = refused_stepped 1 (rw h) (λ z. omega arith) x (q ∙ rw h)
 
   module _ (a : AcceptedImage l) where
     -- an event of another length

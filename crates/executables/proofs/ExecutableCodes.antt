@@ -1,6 +1,6 @@
 -- The rows of the table of codes that matter for events about executables. Assumes nothing.
 use Prim.Native.Nat.{ℕ, ◌<◌}
-use mathlib.Core.{Bool.{Bool, true, false, not, and-true, or-false}, List.{List, [], ◌∷◌, ◌++◌}, Path.{◌≡◌, ap, ◌∙◌}}
+use mathlib.Core.{Bool.{Bool, true, false, not, and-true, or-false}, List.{List, [], ◌∷◌, ◌++◌}, Logic.{◌⊎◌, inl, inr}, Path.{◌≡◌, ap, ◌∙◌}}
 use Rattle.records.specs.{Phone.Phone, declared.Executable.Executable, declared.Event.Event}
 use Rattle.rules.specs.{Words.{any, Check, ◌⇒◌, first}, Actors.may_act, Forms.{with_kind, id_form, executable_form, action_form}}
 use Rattle.rules.specs.Codes.{is_executable, executable_named, executable_known, code_of}
@@ -17,7 +17,7 @@ install_executable_rows p e =
     ∷ []
 
 -- x is the executable that is named
-abbrev request_rows : Phone → Event → Executable → List Check
+abbrev pub request_rows : Phone → Event → Executable → List Check
 request_rows p e x = (not (action_form p e) ⇒ 2) ∷ (executable_rows 15 p e ++ table_rows p x e.second)
 
 -- ---- what they give is the code
@@ -27,13 +27,10 @@ module _ (p : Phone) (e : Event) (a : e.actor < 5) where
   unfolding the_table
   install_executable_told g = gives g ∙ simp (small_actor e a, and-true, or-false)
 
-  pub delete_executable_told : first ((not (id_form p e) ⇒ 2) ∷ executable_rows 11 p e) ≡ code_of p (with_kind 11 e)
+  pub id_told : (k : ℕ) → (k ≡ 11) ⊎ (k ≡ 12) → first ((not (id_form p e) ⇒ 2) ∷ executable_rows k p e) ≡ code_of p (with_kind k e)
   unfolding the_table
-  delete_executable_told = simp (small_actor e a, and-true, or-false)
-
-  pub verify_told : first ((not (id_form p e) ⇒ 2) ∷ executable_rows 12 p e) ≡ code_of p (with_kind 12 e)
-  unfolding the_table
-  verify_told = simp (small_actor e a, and-true, or-false)
+  id_told k (inl q) = rw q (simp (small_actor e a, and-true, or-false))
+  id_told k (inr q) = rw q (simp (small_actor e a, and-true, or-false))
 
   pub permit_told : (given : Bool) → let k = permission_kind given in first ((not (action_form p e) ⇒ 2) ∷ executable_rows k p e) ≡ code_of p (with_kind k e)
   unfolding the_table

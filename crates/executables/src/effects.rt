@@ -1,7 +1,6 @@
 // What an event about executables writes, once it is done.
 ghost use Rattle.std.specs.Prelude.{◌<◌, length, ◌≡◌};
-ghost use Rattle.bits.specs.Bits.{set_bit, clear_bit};
-ghost use Rattle.executables.specs.Acting.{chained_at};
+ghost use Rattle.executables.specs.Acting.{chained_at, permission_write};
 ghost use Rattle.rules.specs.Words.{first_place};
 ghost use Rattle.rules.specs.AcceptedImage.{AcceptedImage};
 ghost use Rattle.records.specs.Frame.{Framed};
@@ -53,28 +52,20 @@ pub fn verify(s: &mut [u8], e: Event, slot: usize) -> Chained
     told
 }
 
-// 13 give permission
-pub fn give(s: &mut [u8], e: Event, slot: usize)
+// 13 give permission, or 14 withdraw it
+pub fn permit(s: &mut [u8], e: Event, slot: usize, given: bool)
     requires accepted_image { AcceptedImage s.old }
     requires slot_value { slot ≡ first_place (is_executable e.id) (decode s.old).executables }
     requires slot_in_bounds { slot < length (decode s.old).executables }
     requires id_nonzero { (0 < e.id) × (e.second < length (decode s.old).table) }
-    ensures { s.new ≡ encode (permit set_bit e (decode s.old)) }
+    ensures { s.new ≡ encode (permit (permission_write given) e (decode s.old)) }
 {
-    let x = image::executable(s, slot);
-    let w = bits::set_bit(x.permissions, e.second as u32);
-    image::set_permissions(s, slot, w);
-}
-
-// 14 withdraw permission
-pub fn withdraw(s: &mut [u8], e: Event, slot: usize)
-    requires accepted_image { AcceptedImage s.old }
-    requires slot_value { slot ≡ first_place (is_executable e.id) (decode s.old).executables }
-    requires slot_in_bounds { slot < length (decode s.old).executables }
-    requires id_nonzero { (0 < e.id) × (e.second < length (decode s.old).table) }
-    ensures { s.new ≡ encode (permit clear_bit e (decode s.old)) }
-{
-    let x = image::executable(s, slot);
-    let w = bits::clear_bit(x.permissions, e.second as u32);
-    image::set_permissions(s, slot, w);
+    let w = image::executable(s, slot).permissions;
+    let action = e.second as u32;
+    let written = if given {
+        bits::set_bit(w, action)
+    } else {
+        bits::clear_bit(w, action)
+    };
+    image::set_permissions(s, slot, written);
 }

@@ -1,6 +1,6 @@
 -- From what a handler decided, wrote and settled to what it promises. Assumes nothing.
 use Prim.Native.Nat.{ℕ, ◌<◌}
-use mathlib.Core.{Bool.cond, List.{List, Memᴰ}, Logic.◌≢◌, Path.{◌≡◌, sym, ap, ◌∙◌, subst}}
+use mathlib.Core.{Bool.{Bool, cond}, List.{List, Memᴰ}, Logic.◌≢◌, Path.{◌≡◌, refl, sym, ap, ◌∙◌, subst}}
 use native.Mathlib.Omega.{arith}
 use borrow.Author.Tests.{eq-eqb, ne_eqb}
 use lib.{Dec.T, ListN.{length, get_or}}
@@ -11,37 +11,62 @@ use Rattle.rules.specs.{Step.{refused, answer_done, done}, AcceptedImage.Accepte
 use Rattle.laws.proofs.{Tests.eq→eqb, Accepted.Accepted, Accepts.accepted_out, Promise.executable_domain}
 use Rattle.keeping.proofs.{Unrefused.{unrefused, action_formed}, Shape.{shape_effect, sized_shape}}
 use Rattle.chain.specs.Settling.{settle_in, DomainsKnown}
-use Rattle.handling.specs.{declared.Plan.Plan, Plans.plan, Handled.{Handled, Settled}}
-use Rattle.handling.proofs.PlanLaws.{refused_code, refused_not_0}
+use Rattle.std.specs.{Prelude.{Result, Ok, Err}, Result.IsErrAnd}
+use Rattle.handling.specs.{declared.Refusal.Refusal, RefusalCodes.{refusal_code, by_code}, Plans.plan, Handled.{Handled, Tried, Settled}}
+use Rattle.handling.proofs.PlanLaws.{plan_refused, plan_on, reason_not_0, passed_on, refused_code, on_code, on_slot}
+
+-- what is told, by whether the code is 0
+abbrev told_by : List ℕ → Event → Bool → Answer
+told_by l e b = cond b (done e (changed e (decode l))) (refused (code_of (decode l) e))
 
 module _ {l : List ℕ} {e : Event} where
-  -- a code that is not 0: nothing was written
-  pub handled_refused : {c : ℕ} → c ≡ code_of (decode l) e → c ≢ 0 → {x : Answer} → x ≡ refused c → Handled l e x l
-  handled_refused q h i =
-      let n = ne_eqb (code_of (decode l) e) 0 (λ z. h (q ∙ z)) in
+  -- it is refused: nothing was written
+  pub tried_refused : {A : Type 0} (about : A) {r : Result A Refusal} {why : Refusal} → by_code r ≡ plan (code_of (decode l) e) about → r ≡ Err why
+      → Tried l e (Err why) l
+  unfolding plan
+  tried_refused about {why = why} q i =
+      let c = refused_code (code_of (decode l) e) about q i in
+      let n = ne_eqb (code_of (decode l) e) 0 (λ z. reason_not_0 why (c ∙ z)) in
       record {
-        answer = i ∙ ap refused q ∙ ap (λ b. cond b (done e (changed e (decode l))) (refused (code_of (decode l) e))) (sym n);
+        answer = plan_refused (code_of (decode l) e) (done e (changed e (decode l))) (let z = reason_not_0 why in omega arith) c;
         image = ap (λ b. cond b (encode (changed e (decode l))) l) (sym n);
       }
 
-  -- the same of a plan
-  pub plan_handled : (slot : ℕ) {c : ℕ} {r : Plan} → r ≡ plan (code_of (decode l) e) slot → r ≡ Plan.Refused c → {x : Answer} → x ≡ refused c → Handled l e x l
-  plan_handled slot p q = handled_refused (refused_code (code_of (decode l) e) slot p q) (refused_not_0 (code_of (decode l) e) slot p q)
+  -- the same of a reason that `?` passed on
+  pub tried_passed : {A : Type 0} (about : A) (why : Refusal) → Err (refusal_code why) ≡ plan (code_of (decode l) e) about
+      → {r : Result Answer Refusal} → IsErrAnd r (λ x. x ≡ why) → Tried l e r l
+  tried_passed about why q h = rw (passed_on h) (tried_refused about {r = Err why} q refl)
 
   -- code 0, and the image is that of the phone that the rules make
-  pub handled_done : code_of (decode l) e ≡ 0 → {x : Answer} → x ≡ done e (changed e (decode l))
-      → {l' : List ℕ} → l' ≡ encode (changed e (decode l)) → Handled l e x l'
-  handled_done z q i =
+  pub tried_done : code_of (decode l) e ≡ 0 → {x : Answer} → x ≡ done e (changed e (decode l))
+      → {l' : List ℕ} → l' ≡ encode (changed e (decode l)) → Tried l e (Ok x) l'
+  tried_done z q i =
       let n = eq-eqb (code_of (decode l) e) 0 z in
       record {
-        answer = q ∙ ap (λ b. cond b (done e (changed e (decode l))) (refused (code_of (decode l) e))) (sym n);
+        answer = plan_on (code_of (decode l) e) (done e (changed e (decode l))) q (sym z);
         image = i ∙ ap (λ b. cond b (encode (changed e (decode l))) l) (sym n);
       }
 
   -- the effect is written, and there is nothing to settle
-  pub handled_still : code_of (decode l) e ≡ 0 → changed e (decode l) ≡ effect e (decode l) → {x : Answer} → x ≡ done e (changed e (decode l))
-      → {l₁ : List ℕ} → l₁ ≡ encode (effect e (decode l)) → Handled l e x l₁
-  handled_still z s q i = handled_done z q (i ∙ ap encode (sym s))
+  pub tried_still : code_of (decode l) e ≡ 0 → changed e (decode l) ≡ effect e (decode l) → {x : Answer} → x ≡ done e (changed e (decode l))
+      → {l₁ : List ℕ} → l₁ ≡ encode (effect e (decode l)) → Tried l e (Ok x) l₁
+  tried_still z s q i = tried_done z q (i ∙ ap encode (sym s))
+
+  -- what a handler answered is told
+  module _ {r : Result Answer Refusal} {l' : List ℕ} (t : Tried l e r l') where
+    pub handled_ok : {x : Answer} → r ≡ Ok x → Handled l e x l'
+    handled_ok i =
+        let z = on_code (code_of (decode l) e) (done e (changed e (decode l))) t.answer i in
+        record {
+          answer = on_slot (code_of (decode l) e) (done e (changed e (decode l))) t.answer i ∙ ap (told_by l e) (sym (eq-eqb (code_of (decode l) e) 0 z));
+          image = t.image;
+        }
+
+    pub handled_err : {why : Refusal} → r ≡ Err why → {x : Answer} → x ≡ refused (refusal_code why) → Handled l e x l'
+    handled_err {why} i q =
+        let c = refused_code (code_of (decode l) e) (done e (changed e (decode l))) t.answer i in
+        let n = ne_eqb (code_of (decode l) e) 0 (λ z. reason_not_0 why (c ∙ z)) in
+        record { answer = q ∙ ap refused c ∙ ap (told_by l e) (sym n); image = t.image }
 
 -- l₁ is the image with the effect
 module _ (l : List ℕ) (e : Event) {l₁ : List ℕ} (i : l₁ ≡ encode (effect e (decode l))) where
@@ -67,10 +92,10 @@ module _ (l : List ℕ) (e : Event) {l₁ : List ℕ} (i : l₁ ≡ encode (effe
   said_own d h = ap (settle_in d) said ∙ h ∙ ap settle (sym said)
 
   -- settled after it
-  pub handled_settled : code_of (decode l) e ≡ 0 → answer_done 0 0 ≡ done e (changed e (decode l))
-      → {x : Answer} {l₂ : List ℕ} → Settled l₁ x l₂ → Handled l e x l₂
+  pub tried_settled : code_of (decode l) e ≡ 0 → answer_done 0 0 ≡ done e (changed e (decode l))
+      → {x : Answer} {l₂ : List ℕ} → Settled l₁ x l₂ → Tried l e (Ok x) l₂
   unfolding changed
-  handled_settled z q s = handled_done z (s.answer ∙ q) (s.image ∙ ap (λ p. encode (settle p)) said)
+  tried_settled z q s = tried_done z (s.answer ∙ q) (s.image ∙ ap (λ p. encode (settle p)) said)
 
 -- ---- what the writers ask for, and what they have made
 

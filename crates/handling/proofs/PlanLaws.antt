@@ -1,66 +1,112 @@
 -- A plan from its code and its slot, and back. Assumes nothing.
 use Prim.Native.Nat.{ℕ, ◌≤◌, ◌<◌}
-use mathlib.Core.{Bool.{Bool, true, false, cond, not, ◌&&◌, ◌||◌, false≢true}, List.{List, [], ◌∷◌, ◌++◌}, Logic.◌≢◌, Path.{◌≡◌, refl, sym, ap, ◌∙◌}}
+use mathlib.Core.{Bool.{Bool, true, false, cond, not, ◌&&◌, ◌||◌}, List.{List, [], ◌∷◌, ◌++◌}, Logic.◌≢◌, Path.{◌≡◌, refl, sym, ap, ◌∙◌}}
 use native.Mathlib.Omega.{arith}
 use borrow.Author.Tests.{ne_eqb}
-use lib.{Dec.{T, T_not, eqb, eqb→eq}, ListN.length}
+use lib.{Dec.{T, T_not, eqb, eqb→eq}, ListN.{length, get_or}}
 use Rattle.records.specs.{Phone.Phone, declared.Event.Event}
 use Rattle.rules.specs.{Words.{between, any, Check, ◌⇒◌, first, first_place}, Forms.{listed, with_kind}}
 use Rattle.rules.specs.Codes.{has_id, is_executable, names_certificate, certificate_known, executable_known, id_unknown, no_free_slot, code_of}
 use Rattle.laws.proofs.{Accepts.T_true, Tests.{and_l, and_r, eq→eqb, nor_l, coded}}
 use Rattle.keeping.proofs.Unrefused.{unrefused}
 use Rattle.lookup.proofs.FirstWithin.{first_within}
-use Rattle.handling.specs.{declared.Plan.Plan, Plans.plan}
+use Rattle.std.specs.{Prelude.{Option, Some, None, Result, Ok, Err}, Result.IsErrAnd}
+use Rattle.std.proofs.lemmas.Result.{err_from_is_err_and}
+use Rattle.handling.specs.{declared.Refusal.Refusal, RefusalCodes.{refusal_code, by_code}, Plans.plan}
 
-module _ (code slot : ℕ) where
+module _ {A : Type 0} (code : ℕ) (about : A) where
   -- a code that is not 0
-  pub plan_refused : {c : ℕ} → 1 ≤ c → c ≡ code → Plan.Refused c ≡ plan code slot
+  pub plan_refused : {c : ℕ} → 1 ≤ c → c ≡ code → Err c ≡ plan code about
   unfolding plan
   plan_refused {c} h q =
-      ap (λ b. cond b (Plan.On slot) (Plan.Refused c)) (sym (ne_eqb c 0 (λ z. omega arith))) ∙ ap (λ m. plan m slot) q
+      ap (λ b. cond b (Ok about) (Err c)) (sym (ne_eqb c 0 (λ z. omega arith))) ∙ ap (λ m. plan m about) q
 
-  pub plan_on : {i : ℕ} → i ≡ slot → 0 ≡ code → Plan.On i ≡ plan code slot
+  pub plan_on : {x : A} → x ≡ about → 0 ≡ code → Ok x ≡ plan code about
   unfolding plan
-  plan_on at q = ap (λ i. Plan.On i) at ∙ ap (λ m. plan m slot) q
+  plan_on at q = ap Ok at ∙ ap (λ m. plan m about) q
 
 -- ---- back
 
-unfoldable is_on : Plan → Bool
-is_on (Plan.On i) = true
-is_on (Plan.Refused c) = false
+unfoldable code_of_plan : {A : Type 0} → Result A ℕ → ℕ
+code_of_plan (Ok x) = 0
+code_of_plan (Err c) = c
 
-unfoldable slot_of : Plan → ℕ
-slot_of (Plan.On i) = i
-slot_of (Plan.Refused c) = 0
+-- what a plan is about, or d
+unfoldable about_or : {A : Type 0} → A → Result A ℕ → A
+about_or d (Ok x) = x
+about_or d (Err c) = d
 
-unfoldable code_of_plan : Plan → ℕ
-code_of_plan (Plan.On i) = 0
-code_of_plan (Plan.Refused c) = c
+-- what `?` returns: the reason is passed on
+pub passed_on : {A : Type 0} {r : Result A Refusal} {why : Refusal} → IsErrAnd r (λ x. x ≡ why) → r ≡ Err why
+passed_on {r = r} h = let p = err_from_is_err_and r h in p.1 ∙ ap Err p.2
 
-module _ (code slot : ℕ) {r : Plan} (p : r ≡ plan code slot) where
-  tells : {q : Plan} → r ≡ q → code_of_plan q ≡ code
+-- the reason that a code names
+reason_of : ℕ → Option Refusal
+reason_of n = get_or named n None
+  where
+    named : List (Option Refusal)
+    named =
+        None ∷ None
+        ∷ Some Refusal.Malformed ∷ Some Refusal.UnknownId ∷ Some Refusal.ActorNotAllowed ∷ Some Refusal.ClockBackwards ∷ Some Refusal.UnknownCard
+        ∷ Some Refusal.CardState ∷ Some Refusal.CardAbsent ∷ Some Refusal.IdTaken ∷ Some Refusal.KeyElsewhere ∷ Some Refusal.OtherOperator
+        ∷ Some Refusal.WrongKind ∷ Some Refusal.AnotherValid ∷ Some Refusal.NoFreeSlot ∷ Some Refusal.NeverAllowed ∷ Some Refusal.NoPermission
+        ∷ Some Refusal.NoRecovery ∷ Some Refusal.PastItsDate ∷ []
+
+reason_back : (why : Refusal) → reason_of (refusal_code why) ≡ Some why
+unfolding reason_of
+reason_back Refusal.Malformed = refl
+reason_back Refusal.UnknownId = refl
+reason_back Refusal.ActorNotAllowed = refl
+reason_back Refusal.ClockBackwards = refl
+reason_back Refusal.UnknownCard = refl
+reason_back Refusal.CardState = refl
+reason_back Refusal.CardAbsent = refl
+reason_back Refusal.IdTaken = refl
+reason_back Refusal.KeyElsewhere = refl
+reason_back Refusal.OtherOperator = refl
+reason_back Refusal.WrongKind = refl
+reason_back Refusal.AnotherValid = refl
+reason_back Refusal.NoFreeSlot = refl
+reason_back Refusal.NeverAllowed = refl
+reason_back Refusal.NoPermission = refl
+reason_back Refusal.NoRecovery = refl
+reason_back Refusal.PastItsDate = refl
+
+-- no reason to refuse has code 0, and no two have one code
+pub reason_not_0 : (why : Refusal) → refusal_code why ≢ 0
+unfolding reason_of
+reason_not_0 why z = let none : None ≡ Some why = ap reason_of (sym z) ∙ reason_back why in absurd cc
+
+pub same_reason : (a b : Refusal) → refusal_code a ≡ refusal_code b → a ≡ b
+same_reason a b h = let both : Some a ≡ Some b = sym (reason_back a) ∙ ap reason_of h ∙ reason_back b in cc
+
+-- nothing is lost where a refusal is told by its code
+pub same_coded : {A : Type 0} (r r' : Result A Refusal) → by_code r ≡ by_code r' → r ≡ r'
+same_coded (Ok x) (Ok y) h = let both : x ≡ y = cc in ap Ok both
+same_coded (Err a) (Err b) h = let both : refusal_code a ≡ refusal_code b = cc in ap Err (same_reason a b both)
+same_coded (Ok x) (Err b) h = absurd cc
+same_coded (Err a) (Ok y) h = absurd cc
+
+module _ {A : Type 0} (code : ℕ) (about : A) {r : Result A Refusal} (p : by_code r ≡ plan code about) where
+  tells : {q : Result A Refusal} → r ≡ q → code_of_plan (by_code q) ≡ code
   unfolding plan code_of_plan
-  tells {q} e = ap code_of_plan (sym e ∙ p) ∙ go (eqb code 0) (λ b. eqb→eq code 0 b)
+  tells {q} e = ap code_of_plan (ap by_code (sym e) ∙ p) ∙ go (eqb code 0) (λ b. eqb→eq code 0 b)
     where
-      go : (b : Bool) → (T b → code ≡ 0) → code_of_plan (cond b (Plan.On slot) (Plan.Refused code)) ≡ code
+      go : (b : Bool) → (T b → code ≡ 0) → code_of_plan (cond b (Ok about) (Err code)) ≡ code
       go true h = sym (h tt)
       go false h = refl
 
-  pub refused_code : {c : ℕ} → r ≡ Plan.Refused c → c ≡ code
+  pub refused_code : {why : Refusal} → r ≡ Err why → refusal_code why ≡ code
   unfolding code_of_plan
   refused_code e = tells e
 
-  pub refused_not_0 : {c : ℕ} → r ≡ Plan.Refused c → c ≢ 0
-  unfolding plan is_on
-  refused_not_0 {c} e z = false≢true (ap is_on (sym e ∙ p) ∙ ap (λ m. is_on (plan m slot)) (sym (refused_code e) ∙ z))
-
-  pub on_code : {i : ℕ} → r ≡ Plan.On i → code ≡ 0
+  pub on_code : {x : A} → r ≡ Ok x → code ≡ 0
   unfolding code_of_plan
   on_code e = sym (tells e)
 
-  pub on_slot : {i : ℕ} → r ≡ Plan.On i → i ≡ slot
-  unfolding plan slot_of
-  on_slot e = ap slot_of (sym e ∙ p) ∙ ap (λ m. slot_of (plan m slot)) (on_code e)
+  pub on_slot : {x : A} → r ≡ Ok x → x ≡ about
+  unfolding plan about_or
+  on_slot e = ap (λ m. about_or about (by_code m)) (sym e) ∙ ap (about_or about) p ∙ ap (λ m. about_or about (plan m about)) (on_code e)
 
 -- ---- the slot of an event that is not refused is a slot
 

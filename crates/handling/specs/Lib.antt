@@ -1,3 +1,4 @@
 pub mod Handled
 pub mod Plans
+pub mod RefusalCodes
 pub mod Retiring

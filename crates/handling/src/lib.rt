@@ -8,16 +8,71 @@ ghost use Rattle.rules.specs.Effects.{settle};
 ghost use Rattle.rules.specs.Step.{refused, answer_done};
 ghost use Rattle.chain.specs.Settling.{settle_in, DomainsKnown};
 ghost use Rattle.handling.specs.Handled.{Settled};
+ghost use Rattle.handling.specs.RefusalCodes.{of_room, refusal_code};
 ghost use Rattle.handling.specs.Retiring.{outgoing, retiring};
 
+use lookup::NoRoom;
 use records::{Certificate, image};
 use rules::Answer;
 
-// What is decided of an event that names a record or needs room for one: it is refused with a code, or it is about a slot.
+// Why an event on an accepted image is refused: a name for each code from 2 on.
 #[derive(Clone, Copy)]
-pub enum Plan {
-    Refused(u8),
-    On(usize),
+pub enum Refusal {
+    // "event not 24 bytes, kind not 1..15, actor above 4, a field out of range, unused field not 0, action not below the action count"
+    Malformed = 2,
+    // "id unknown", or a listed one
+    UnknownId = 3,
+    // "actor not allowed"
+    ActorNotAllowed = 4,
+    // "new time below the clock"
+    ClockBackwards = 5,
+    // "a card or install place that is not 0 and is not in the card table"
+    UnknownCard = 6,
+    // "card in with one present; card out with none"
+    CardState = 7,
+    // "install, delete or mark on a card not present"
+    CardAbsent = 8,
+    // "id taken in the same table"
+    IdTaken = 9,
+    // "a certificate of another domain has this key"
+    KeyElsewhere = 10,
+    // an operator root that is not the operator's of its card, or of the card present
+    OtherOperator = 11,
+    // "marking an issued record; message lists one that is no third party root"
+    WrongKind = 12,
+    // "mark valid while another is valid"
+    AnotherValid = 13,
+    // "no free slot"
+    NoFreeSlot = 14,
+    // "table byte 0"
+    NeverAllowed = 15,
+    // "table byte 1 and no permission"
+    NoPermission = 16,
+    // a replace whose recovery record does not fit
+    NoRecovery = 17,
+    // a certificate past its date would become valid
+    PastItsDate = 18,
+}
+
+impl Refusal {
+    // The code that is told.
+    pub fn code(self) -> u8
+        ensures { result ≡ refusal_code self }
+    {
+        self as u8
+    }
+}
+
+impl From<NoRoom> for Refusal {
+    ghost from_gives = { λ why r. r ≡ of_room why };
+
+    fn from(why: NoRoom) -> Refusal {
+        match why {
+            NoRoom::Taken => Refusal::IdTaken,
+            NoRoom::Elsewhere => Refusal::KeyElsewhere,
+            NoRoom::Full => Refusal::NoFreeSlot,
+        }
+    }
 }
 
 // ---- answers
@@ -97,14 +152,9 @@ pub fn retire(s: &mut [u8], every: bool, operator: u32)
     requires { Framed s.old }
     ensures { s.new ≡ encode (retiring every operator (decode s.old)) }
 {
-    let slots = image::certificate_slots(s);
-    let mut i: usize = 0;
-    while i < slots {
-        if !is_outgoing(every, operator, image::certificate(s, i)) {
-            i += 1;
-            continue;
+    for i in 0..image::certificate_slots(s) {
+        if is_outgoing(every, operator, image::certificate(s, i)) {
+            image::set_mark(s, i, Certificate::INVALID);
         }
-        image::set_mark(s, i, Certificate::INVALID);
-        i += 1;
     }
 }

@@ -1,2 +1,1 @@
-pub mod RecordFound
 pub mod RoomForOne

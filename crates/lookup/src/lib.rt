@@ -1,181 +1,104 @@
 // Records found: a certificate or an executable by its id, a card by its number, and what the rules ask of them.
 #![tactic(auto)]
 
-ghost use Rattle.std.specs.Prelude.{◌≤◌, eqb, length, ◌&&◌, ◌≡◌};
-ghost use Rattle.lookup.specs.RoomForOne.{Passed, certificate_room, executable_room};
-ghost use Rattle.lookup.specs.RecordFound.{found};
+ghost use Rattle.std.specs.Prelude.{eqb, ◌&&◌, ◌≡◌};
+ghost use Rattle.lookup.specs.RoomForOne.{certificate_room, executable_room};
 ghost use Rattle.records.specs.Frame.{Framed};
 ghost use Rattle.records.specs.Phone.{decode};
 ghost use Rattle.rules.specs.Codes.{has_id, in_another, is_executable};
 ghost use Rattle.rules.specs.Effects.{marked_operator};
 ghost use Rattle.rules.specs.ImageRules.{has_valid_operator, in_card_table, known_place, operator_of, valid_in};
-ghost use Rattle.rules.specs.Words.{any, first_place};
+ghost use Rattle.rules.specs.Words.{any};
+ghost use Rattle.sweep.specs.FirstPassing.{found};
 
 use records::{Certificate, image};
 
-// A record looked for: the slot where it stands, or nowhere.
-#[derive(Clone, Copy)]
-pub enum Found {
-    At(usize),
-    Nowhere,
-}
-
 // Where the certificate with this id stands. Id 0 finds the lowest free slot.
-pub fn certificate_slot(s: &[u8], id: u16) -> Found
+pub fn certificate_slot(s: &[u8], id: u16) -> Option<usize>
     requires { Framed s.now }
     ensures { result ≡ found (has_id id) (decode s.now).trust.certificates }
 {
-    let slots = image::certificate_slots(s);
-    let mut i: usize = 0;
-    while i < slots {
-        if image::certificate_has_id(s, i, id) {
-            return Found::At(i);
-        }
-        i += 1;
-    }
-    Found::Nowhere
+    sweep::first(
+        image::certificate_slots(s),
+        |i| image::certificate_has_id(s, i, id),
+    )
 }
 
-// The same of an executable, where no slot before `from` has the id.
-fn executable_from(s: &[u8], id: u16, from: usize) -> Found
-    requires framed { Framed s.now }
-    requires from_in_bounds { from ≤ length (decode s.now).executables }
-    requires passed { Passed (is_executable id) (decode s.now).executables from }
-    ensures { result ≡ found (is_executable id) (decode s.now).executables }
-{
-    let slots = image::executable_slots(s);
-    let mut i = from;
-    while i < slots {
-        if image::executable_has_id(s, i, id) {
-            return Found::At(i);
-        }
-        i += 1;
-    }
-    Found::Nowhere
-}
-
-// Where the executable with this id stands. Id 0 finds the lowest free slot. Most events name an executable, so it is looked for four
-// slots a turn: whether there is a next turn costs as much to ask as two slots.
-pub fn executable_slot(s: &[u8], id: u16) -> Found
+// Where the executable with this id stands. Id 0 finds the lowest free slot.
+pub fn executable_slot(s: &[u8], id: u16) -> Option<usize>
     requires { Framed s.now }
     ensures { result ≡ found (is_executable id) (decode s.now).executables }
 {
-    let slots = image::executable_slots(s);
-    let mut i: usize = 0;
-    while i + 3 < slots {
-        if image::executable_has_id(s, i, id) {
-            return Found::At(i);
-        }
-        if image::executable_has_id(s, i + 1, id) {
-            return Found::At(i + 1);
-        }
-        if image::executable_has_id(s, i + 2, id) {
-            return Found::At(i + 2);
-        }
-        if image::executable_has_id(s, i + 3, id) {
-            return Found::At(i + 3);
-        }
-        i += 4;
-    }
-    executable_from(s, id, i)
+    sweep::first(
+        image::executable_slots(s),
+        |i| image::executable_has_id(s, i, id),
+    )
 }
 
-// What an install of an executable finds: its id taken, no free slot, or the lowest free one.
+// Why there is no room for one more record: its id is taken, a certificate of another domain has its key, or no slot is free.
 #[derive(Clone, Copy)]
-pub enum Room {
-    Taken,
-    Full,
-    Free(usize),
-}
-
-// One sweep for an install, from the last slot down: the last free slot met is the lowest.
-pub fn executable_room(s: &[u8], id: u16) -> Room
-    requires { Framed s.now }
-    ensures { result ≡ executable_room id (decode s.now).executables }
-{
-    let slots = image::executable_slots(s);
-    let mut slot = slots;
-    let mut i = slots;
-    while 0 < i {
-        i -= 1;
-        if image::executable_has_id(s, i, id) {
-            return Room::Taken;
-        }
-        if !image::executable_has_id(s, i, 0) {
-            continue;
-        }
-        slot = i;
-    }
-    if slots <= slot {
-        return Room::Full;
-    }
-    Room::Free(slot)
-}
-
-// The same for a certificate, which may also find that one of another domain has its key.
-#[derive(Clone, Copy)]
-pub enum CertificateRoom {
+pub enum NoRoom {
     Taken,
     Elsewhere,
     Full,
-    Free(usize),
 }
 
-// The first slot with this id, or the number of slots. A number and no `Found`: with that the sweep that asks takes an instruction a slot more.
-fn first_place(s: &[u8], id: u16) -> usize
+// The lowest free slot for an executable with this id. One sweep, from the last slot down: the last free slot met is the lowest.
+pub fn executable_room(s: &[u8], id: u16) -> Result<usize, NoRoom>
     requires { Framed s.now }
-    ensures { result ≡ first_place (has_id id) (decode s.now).trust.certificates }
+    ensures { result ≡ executable_room id (decode s.now).executables }
 {
-    let slots = image::certificate_slots(s);
-    let mut i: usize = 0;
-    while i < slots {
-        if image::certificate_has_id(s, i, id) {
-            return i;
+    let mut room = Err(NoRoom::Full);
+    for i in (0..image::executable_slots(s)).rev() {
+        if image::executable_has_id(s, i, id) {
+            return Err(NoRoom::Taken);
         }
-        i += 1;
+        if image::executable_has_id(s, i, 0) {
+            room = Ok(i);
+        }
     }
-    slots
+    room
 }
 
-// Whether c has the key in another domain. Most keys differ in their low byte, so that is asked first.
+// Whether c has the key in another domain.
 fn in_another(c: Certificate, key: u32, domain: u8) -> bool
     ensures { result ≡ in_another key domain c }
 {
-    if c.key % 256 != key % 256 {
-        return false;
-    }
-    (c.key / 256 == key / 256) & (c.domain != domain)
+    (c.key == key) && (c.domain != domain)
 }
 
-pub fn certificate_room(s: &[u8], id: u16, key: u32, domain: u8) -> CertificateRoom
+// Whether a certificate has this id. Asked seldom and kept apart, so that the sweep that asks stays small.
+#[inline(never)]
+fn is_taken(s: &[u8], id: u16) -> bool
+    requires { Framed s.now }
+    ensures { result ≡ any (has_id id) (decode s.now).trust.certificates }
+{
+    certificate_slot(s, id).is_some()
+}
+
+// The same for a certificate, of which no other domain may have the key.
+pub fn certificate_room(s: &[u8], id: u16, key: u32, domain: u8) -> Result<usize, NoRoom>
     requires { Framed s.now }
     ensures { result ≡ certificate_room id key domain (decode s.now).trust.certificates }
 {
-    let slots = image::certificate_slots(s);
-    let mut slot = slots;
-    let mut i = slots;
-    while 0 < i {
-        i -= 1;
+    let mut free = Err(NoRoom::Full);
+    for i in (0..image::certificate_slots(s)).rev() {
         let c = image::certificate(s, i);
         if c.id == id {
-            return CertificateRoom::Taken;
+            return Err(NoRoom::Taken);
         }
         if in_another(c, key, domain) {
             // An id that is taken is told first, and the slots below have not been asked.
-            if first_place(s, id) < slots {
-                return CertificateRoom::Taken;
+            if is_taken(s, id) {
+                return Err(NoRoom::Taken);
             }
-            return CertificateRoom::Elsewhere;
+            return Err(NoRoom::Elsewhere);
         }
-        if c.id != 0 {
-            continue;
+        if c.id == 0 {
+            free = Ok(i);
         }
-        slot = i;
     }
-    if slots <= slot {
-        return CertificateRoom::Full;
-    }
-    CertificateRoom::Free(slot)
+    free
 }
 
 // Whether "a certificate of another domain has this key".
@@ -184,29 +107,14 @@ pub fn key_elsewhere(s: &[u8], key: u32, domain: u8) -> bool
     ensures { result ≡ any (in_another key domain) (decode s.now).trust.certificates }
 {
     let slots = image::certificate_slots(s);
-    let mut i: usize = 0;
-    while i < slots {
-        if in_another(image::certificate(s, i), key, domain) {
-            return true;
-        }
-        i += 1;
-    }
-    false
+    sweep::first(slots, |i| in_another(image::certificate(s, i), key, domain)).is_some()
 }
 
 fn in_card_table(s: &[u8], n: u16) -> bool
     requires { Framed s.now }
     ensures { result ≡ in_card_table (decode s.now).cards n }
 {
-    let cards = image::card_count(s);
-    let mut i: usize = 0;
-    while i < cards {
-        if image::card(s, i).number == n {
-            return true;
-        }
-        i += 1;
-    }
-    false
+    sweep::first(image::card_count(s), |i| image::card(s, i).number == n).is_some()
 }
 
 // "is 0 or in the table"
@@ -225,16 +133,10 @@ pub fn operator_of(s: &[u8], n: u16) -> u32
     requires { Framed s.now }
     ensures { result ≡ operator_of (decode s.now).cards n }
 {
-    let cards = image::card_count(s);
-    let mut i: usize = 0;
-    while i < cards {
-        let k = image::card(s, i);
-        if k.number == n {
-            return k.operator;
-        }
-        i += 1;
+    match sweep::first(image::card_count(s), |i| image::card(s, i).number == n) {
+        Some(i) => image::card(s, i).operator,
+        None => 0,
     }
-    0
 }
 
 // A valid operator root in a place. Most records are none, so that is asked first.
@@ -253,14 +155,11 @@ pub fn has_marked_operator(s: &[u8]) -> bool
     ensures { result ≡ any marked_operator (decode s.now).trust.certificates }
 {
     let slots = image::certificate_slots(s);
-    let mut i: usize = 0;
-    while i < slots {
-        if terms::is_marked_operator(image::certificate(s, i)) {
-            return true;
-        }
-        i += 1;
-    }
-    false
+    sweep::first(
+        slots,
+        |i| terms::is_marked_operator(image::certificate(s, i)),
+    )
+    .is_some()
 }
 
 // Whether a place "has a valid-marked operator root".
@@ -268,13 +167,11 @@ pub fn has_valid_operator(s: &[u8], place: u16) -> bool
     requires { Framed s.now }
     ensures { result ≡ has_valid_operator (decode s.now).trust place }
 {
+    let clock = image::clock(s);
     let slots = image::certificate_slots(s);
-    let mut i: usize = 0;
-    while i < slots {
-        if valid_operator(image::clock(s), place, image::certificate(s, i)) {
-            return true;
-        }
-        i += 1;
-    }
-    false
+    sweep::first(
+        slots,
+        |i| valid_operator(clock, place, image::certificate(s, i)),
+    )
+    .is_some()
 }

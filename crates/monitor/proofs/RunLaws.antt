@@ -1,6 +1,6 @@
 -- Laws of a run: what is left of it shrinks by an event at a time. Assumes nothing.
 use Prim.Native.Nat.{ℕ, zero, suc, ◌+◌, ◌-◌, ◌*◌, ◌/◌, ◌%◌, ◌≤◌, ◌<◌}
-use mathlib.Core.{Bool.{Bool, cond}, List.{List, [], ◌∷◌}, Logic.◌≢◌, Path.{◌≡◌, refl, sym, ap, ap₂, ◌∙◌, subst}}
+use mathlib.Core.{Bool.{Bool, false, cond}, List.{List, [], ◌∷◌}, Logic.◌≢◌, Path.{◌≡◌, refl, sym, ap, ap₂, ◌∙◌, subst}}
 use native.{Mathlib.Nat.sub-zero, Mathlib.Omega.arith}
 use borrow.Author.Tests.{eq-eqb, ne_eqb}
 use lib.{Dec.{eqb, eqb→eq}, ListN.{length, take, drop, replicate, length-drop}, Seq.{drop-drop, take_all}}
@@ -8,9 +8,8 @@ use Rattle.octets.specs.Octets.{put}
 use Rattle.octets.proofs.ByteLaws.{put_none, length_put}
 use Rattle.records.specs.{Sizes.event_size, Phone.joined}
 use Rattle.records.proofs.Puts.{put_next}
-use Rattle.rules.specs.{declared.Answer.Answer, declared.Fault.Fault, Faults.fault, Step.{refused_at, opened, run, answers}, AcceptedImage.AcceptedImage}
-use Rattle.laws.proofs.{Tests.{by_test, neqb→ne}, Where.opened_broken}
-use Rattle.opening.specs.Opened.{Opened}
+use Rattle.rules.specs.{declared.Answer.Answer, ImageRules.accepted, Step.{refused_at, opened, run, answers}}
+use Rattle.laws.proofs.{Tests.{by_test, neqb→ne}}
 use Rattle.events.specs.Stepped.{Stepped, SteppedAccepted}
 use Rattle.events.proofs.Steps.{broken_stepped}
 use Rattle.monitor.specs.Told as Told
@@ -118,9 +117,13 @@ packed_stepped l v r a l' q s = record { answer = q ∙ ap packed s.answer; imag
 
 -- ---- an image that is not accepted
 
-module _ (l : List ℕ) (f : Fault) (e : f ≡ fault l) (h : f.rule ≢ 0) where
+module _ (l : List ℕ) (h : accepted l ≡ false) where
+  told : opened l ≡ refused_at l
+  unfolding opened
+  told = rw h
+
   still : (v : List ℕ) → Stepped l v (refused_at l) l
-  still v = broken_stepped l v f e h (refused_at l) (sym (opened_broken l e h))
+  still v = broken_stepped l v h (refused_at l) (sym told)
 
   broken_run : (vs : List (List ℕ)) → run l vs ≡ l
   unfolding run
@@ -141,7 +144,7 @@ module _ (l : List ℕ) (f : Fault) (e : f ≡ fault l) (h : f.rule ≢ 0) where
       record {
         image = sym (broken_run (events_of b n));
         told =
-            t ∙ ap (λ (x : Answer). put out 0 (joined answer_bytes (replicate n x))) (q ∙ opened_broken l e h)
+            t ∙ ap (λ (x : Answer). put out 0 (joined answer_bytes (replicate n x))) (q ∙ told)
             ∙ sym (ap (λ (rs : List Answer). put out 0 (joined answer_bytes rs)) (broken_answers n b));
       }
 
@@ -194,10 +197,7 @@ counted n =
 pub answered_room : (n m : ℕ) → answered n m * answer_size ≤ m
 answered_room n m = omega arith
 
--- what a run asks of an image that was opened, and of the number of events
-pub opened_accepted : (l : List ℕ) (f : Fault) → Opened l f → f.rule ≡ 0 → AcceptedImage l
-opened_accepted l f o z = o.promise z
-
+-- what a run asks of the number of events
 module _ (n m k : ℕ) (c : k ≡ answered n m) where
   pub within_events : k * event_size ≤ n + event_size
   within_events = let e = counted n in omega arith

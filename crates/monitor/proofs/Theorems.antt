@@ -5,6 +5,7 @@
 -- `lines_of`, `why_code` (reasons, specs/Lines), `timeline_code`, `timeline_events` (timeline, specs/Timeline), `in_turn` (timeline,
 -- specs/Running), and here specs/Told.
 use Prim.Native.Nat.{ℕ, ◌+◌, ◌*◌, ◌/◌, ◌%◌, ◌≤◌, ◌<◌, min}
+use Rattle.std.specs.Prelude.{Ok, Err}
 use mathlib.Core.{Bool.true, List.{List, [], ◌++◌}, Logic.{◌≢◌, ◌↔◌}, Path.{◌≡◌, refl, sym, ap, ◌∙◌}}
 use native.Mathlib.Omega.{arith}
 use lib.ListN.{length, get_or, take, drop}
@@ -286,10 +287,10 @@ pub counted_short : (event_count 335 ≡ 14) × (event_count 337 ≡ 15) × (eve
 counted_short = (refl, refl, refl)
 
 -- two lines, and a damaged image, whose number is that of opening it
-pub packed_lines : (why_packed (record { code = 0; rule = 0; offset = 0; lines = 2 }) ≡ 0x0002) × (told_lines 0x0002 ≡ 2) × (told_code 0x0002 ≡ 0)
+pub packed_lines : (why_packed (Ok 2) ≡ 0x0002) × (told_lines 0x0002 ≡ 2) × (told_code 0x0002 ≡ 0)
 packed_lines = (refl, refl, refl)
 
-pub packed_why_damaged : why_packed (record { code = 1; rule = 4; offset = 88; lines = 0 }) ≡ packed damaged
+pub packed_why_damaged : why_packed (Err damaged) ≡ packed damaged
 packed_why_damaged = refl
 
 -- a chain of two, the root's id 10 and the signer's 300: the second line
@@ -297,13 +298,13 @@ pub lines_chain : line_at (bytes 6 0x01_00_0a_01_01_2c) 1 ≡ line said_link 300
 lines_chain = refl
 
 -- the six events of a timeline, one that is refused, and a damaged image, whose number is that of opening it
-pub packed_events : (timeline_packed (record { code = 0; rule = 0; offset = 0; count = 6 }) ≡ 0x0006) × (told_events 0x0006 ≡ 6) × (told_code 0x0006 ≡ 0)
+pub packed_events : (timeline_packed (Ok 6) ≡ 0x0006) × (told_events 0x0006 ≡ 6) × (told_code 0x0006 ≡ 0)
 packed_events = (refl, refl, refl)
 
-pub packed_untimely : (timeline_packed (record { code = 19; rule = 0; offset = 0; count = 0 }) ≡ 0x130000)
+pub packed_untimely : (timeline_packed (Err (record { code = 19; domain = 0; links = 0; rule = 0; offset = 0 })) ≡ 0x130000)
     × (told_events 0x130000 ≡ 0)
     × (told_code 0x130000 ≡ 19)
 packed_untimely = (refl, refl, refl)
 
-pub packed_timeline_damaged : timeline_packed (record { code = 1; rule = 4; offset = 88; count = 0 }) ≡ packed damaged
+pub packed_timeline_damaged : timeline_packed (Err damaged) ≡ packed damaged
 packed_timeline_damaged = refl

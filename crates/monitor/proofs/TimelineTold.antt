@@ -1,15 +1,19 @@
 -- An answer about a timeline: what the number and the events in the buffer tell, and a run of these events. Assumes nothing.
 use Prim.Native.Nat.{ℕ, zero, suc, ◌+◌, ◌*◌, ◌≤◌, ◌<◌, min}
-use mathlib.Core.{Bool.{Bool, true, false}, List.{List, [], ◌∷◌, ◌++◌, append_assoc, append-nil}, Logic.◌≢◌, Path.{◌≡◌, refl, sym, ap, ap₂, ◌∙◌}}
+use mathlib.Core.{Bool.{Bool, true, false, cond}, List.{List, [], ◌∷◌, ◌++◌, append_assoc, append-nil}, Logic.◌≢◌, Path.{◌≡◌, refl, sym, ap, ap₂, subst, ◌∙◌}}
 use native.{Mathlib.Nat.zero-mul, Mathlib.Omega.arith}
-use lib.{ListN.{length, get_or, take, drop, length-take}, Seq.{take_all, take_at, drop_at, get_or-take, drop-drop}}
+use borrow.Author.Tests.{eq-eqb, ne_eqb}
+use lib.{Dec.{eqb, eqb→eq}, ListN.{length, get_or, take, drop, length-take}, Seq.{take_all, take_at, drop_at, get_or-take, drop-drop}}
 use Rattle.octets.specs.Octets.{put}
 use Rattle.octets.proofs.ByteLaws.{get_or_put_after}
 use Rattle.records.specs.{Sizes.event_size, Phone.joined}
-use Rattle.rules.specs.{declared.Answer.Answer, ImageRules.{accepted, «open»}, Faults.{fault, fault_offset}, Step.{opened, run, answers}}
+use Rattle.rules.specs.{declared.Answer.Answer, ImageRules.{accepted, «open»}, Faults.{fault, fault_offset}}
+use Rattle.rules.specs.Step.{answer_done, refused_at, opened, run, answers}
+use Rattle.laws.proofs.Tests.{neqb→ne, by_test}
 use Rattle.laws.proofs.Where.{rule_known, offset_small}
 use Rattle.opening.proofs.Offsets.{opened_told}
-use Rattle.timeline.specs.{declared.Unrolled.Unrolled, Timeline.{timeline_code, timeline_events}, Unrolls.{room, with_events, unroll, Unrolls}}
+use Rattle.std.specs.Prelude.{Result, Ok, Err, IfOk}
+use Rattle.timeline.specs.{Timeline.{timeline_code, timeline_events}, Unrolls.{room, with_events, with_code, unroll, Unrolls}}
 use Rattle.timeline.proofs.{EventsPlaced.Whole, UnrollsTold.{code_broken, events_none}, TimelineCodes.code_most}
 use Rattle.timeline.proofs.EventCounts.{whole_take, length_whole, placed_within, events_few}
 use Rattle.monitor.specs.Told.{packed, told_code, told_rule, told_offset, answer_size, answer_bytes, events_of, Ran, timeline_packed, told_events}
@@ -18,18 +22,47 @@ use Rattle.monitor.proofs.{RunLaws.counted, Answers.open_one}
 
 -- ---- the code that tells it
 
-pub unrolled_for : (l t b : List ℕ) {u : Unrolled} {r : ℕ} {b' : List ℕ} → Unrolls l t b u b' → r ≡ timeline_packed u → UnrolledFor l t b r b'
+-- what `pack_count` asks
+pub few_events : (l t b : List ℕ) {r : Result ℕ Answer} {b' : List ℕ} → Unrolls l t b r b' → IfOk r (λ k. k < 65536)
+unfolding unroll
+few_events l t b {r} x = subst (λ r. IfOk r (λ k. k < 65536)) (sym x.answer) (go (eqb (timeline_code l t) 0))
+  where
+    go : (c : Bool) → IfOk (cond c (Ok (length (timeline_events l t))) (Err (with_code (timeline_code l t) (opened l)))) (λ k. k < 65536)
+    go true = let few = events_few l t in omega arith
+    go false = tt
+
+pub unrolled_for : (l t b : List ℕ) {u : Result ℕ Answer} {r : ℕ} {b' : List ℕ} → Unrolls l t b u b' → r ≡ timeline_packed u → UnrolledFor l t b r b'
 unrolled_for l t b x q = record { answer = q ∙ ap timeline_packed x.answer; events = x.events }
 
 -- ---- the number
 
 module _ (l t : List ℕ) where
+  -- an image whose timeline is not refused breaks no rule
+  unbroken : timeline_code l t ≡ 0 → ((fault l).rule ≡ 0) × (fault_offset l ≡ 0)
+  unfolding opened
+  unbroken z = go (accepted l) refl
+    where
+      go : (y : Bool) → accepted l ≡ y → ((fault l).rule ≡ 0) × (fault_offset l ≡ 0)
+      go true e =
+          let q = sym (opened_told l) ∙ ap (λ b. cond b (answer_done 0 0) (refused_at l)) e in
+          (ap (λ a. a.rule) q, ap (λ a. a.offset) q)
+      go false e = let c = code_broken l t e in absurd (omega arith)
+
   -- rule and offset are those of opening, whatever the code
-  pub timeline_told : unroll l t
-      ≡ record { code = timeline_code l t; rule = (fault l).rule; offset = fault_offset l; count = length (timeline_events l t) }
-  unfolding unroll opened
+  timeline_told : timeline_packed (unroll l t)
+      ≡ ((fault_offset l * 256 + (fault l).rule) * 256 + timeline_code l t) * 65536 + length (timeline_events l t)
+  unfolding unroll
   timeline_told =
-      ap (λ (a : Answer). record { code = timeline_code l t; rule = a.rule; offset = a.offset; count = length (timeline_events l t) }) (opened_told l)
+      by_test (eqb (timeline_code l t) 0)
+      (λ h. let z = eqb→eq (timeline_code l t) 0 h in
+      let s = unbroken z in
+      ap timeline_packed (ap packed_if (eq-eqb _ 0 z)) ∙ omega (arith, s.0, s.1))
+      (λ h. let n = neqb→ne (timeline_code l t) 0 h in
+      let none = ap length (events_none l t n) in
+      ap timeline_packed (ap packed_if (ne_eqb _ 0 n)) ∙ ap (λ a. timeline_packed (Err (with_code (timeline_code l t) a))) (opened_told l) ∙ omega arith)
+    where
+      packed_if : Bool → Result ℕ Answer
+      packed_if b = cond b (Ok (length (timeline_events l t))) (Err (with_code (timeline_code l t) (opened l)))
 
   -- each part is read back
   pub timeline_unpacked : let m = timeline_packed (unroll l t) in
@@ -39,7 +72,7 @@ module _ (l t : List ℕ) where
       let c = code_most l t in
       let r : (fault l).rule ≤ 8 = rule_known l in
       let o : fault_offset l < 65536 = offset_small l in
-      let e = ap timeline_packed timeline_told in
+      let e = timeline_told in
       (ap told_events e ∙ omega arith, ap told_code e ∙ omega arith, ap told_rule e ∙ omega arith, ap told_offset e ∙ omega arith)
 
   -- an image that is not accepted
@@ -52,7 +85,7 @@ module _ (l t : List ℕ) where
           let c = code_broken l t e in
           let z : length (timeline_events l t) ≡ 0 = ap length (events_none l t (λ z. omega arith)) in
           let o : «open» l ≡ 1 = open_one l h in
-          ap timeline_packed timeline_told ∙ omega arith ∙ sym (ap packed (opened_told l))
+          timeline_told ∙ omega arith ∙ sym (ap packed (opened_told l))
 
 -- ---- a buffer of events
 

@@ -1,13 +1,13 @@
 -- What the library's functions promise, over buffers. Definitions only.
-use Rattle.std.specs.Prelude.{ℕ, zero, suc, ◌+◌, ◌*◌, ◌/◌, ◌%◌, min}
+use Rattle.std.specs.Prelude.{ℕ, zero, suc, ◌+◌, ◌*◌, ◌/◌, ◌%◌, min, Result, Ok, Err}
 use mathlib.Core.{Bool.cond, List.{List, [], ◌∷◌}, Path.◌≡◌}
 use lib.{Dec.eqb, ListN.{length, get_or, take, drop}}
 use Rattle.octets.specs.Octets.{put}
 use Rattle.records.specs.{Sizes.event_size, Phone.joined}
 use Rattle.rules.specs.{declared.Answer.Answer, Step.{step, run, answers}}
 use Rattle.explanations.specs.Why.{Line, line}
-use Rattle.reasons.specs.{declared.Why.Why, Lines.{line_size, with_lines, lines_of, why}}
-use Rattle.timeline.specs.{declared.Unrolled.Unrolled, Timeline.timeline_events, Unrolls.{with_events, unroll}}
+use Rattle.reasons.specs.Lines.{line_size, with_lines, lines_of, why}
+use Rattle.timeline.specs.{Timeline.timeline_events, Unrolls.{with_events, unroll}}
 
 -- ---- one step
 
@@ -82,12 +82,19 @@ pub record Ran (l b out : List ℕ) (n : ℕ) (l' out' : List ℕ) : Type 0 wher
   pub count : n ≡ answered (length b) (length out)
   pub followed : Followed l b out n l' out'
 
+-- ---- a count
+
+-- how many there are, or what is told of a refusal, as one number, from the low byte up: two bytes of the count, code, rule, and two bytes of
+-- offset, the last three where `packed` has them
+abbrev pub count_packed : Result ℕ Answer → ℕ
+count_packed (Ok n) = n
+count_packed (Err a) = ((a.offset * 256 + a.rule) * 256 + a.code) * 65536
+
 -- ---- why
 
--- the answer as one number, from the low byte up: two bytes of the number of lines, code, rule, and two bytes of offset, the last three where
--- `packed` has them
-abbrev pub why_packed : Why → ℕ
-why_packed w = ((w.offset * 256 + w.rule) * 256 + w.code) * 65536 + w.lines
+-- the answer as one number: the count is that of the lines
+abbrev pub why_packed : Result ℕ Answer → ℕ
+why_packed = count_packed
 
 -- what a caller reads from it: MONITOR_LINES, the lowest two bytes, and MONITOR_CODE, MONITOR_RULE and MONITOR_OFFSET as above
 abbrev pub told_lines : ℕ → ℕ
@@ -107,10 +114,9 @@ pub record Asked (l : List ℕ) (n : ℕ) (out : List ℕ) (r : ℕ) (out' : Lis
 
 -- ---- timelines
 
--- the answer as one number, from the low byte up: two bytes of the number of events, code, rule, and two bytes of offset, the last three where
--- `packed` has them
-abbrev pub timeline_packed : Unrolled → ℕ
-timeline_packed u = ((u.offset * 256 + u.rule) * 256 + u.code) * 65536 + u.count
+-- the answer as one number: the count is that of the events
+abbrev pub timeline_packed : Result ℕ Answer → ℕ
+timeline_packed = count_packed
 
 -- what a caller reads from it: MONITOR_EVENTS, the lowest two bytes, and MONITOR_CODE, MONITOR_RULE and MONITOR_OFFSET as above
 abbrev pub told_events : ℕ → ℕ

@@ -2,22 +2,18 @@
 // events of a timeline.
 #![tactic(auto)]
 
-ghost use Rattle.std.specs.Prelude.{◌≡◌, ◌+◌, ◌*◌, ◌≤◌, length, take, drop, replicate};
+ghost use Rattle.std.specs.Prelude.{◌≡◌, ◌+◌, ◌*◌, ◌<◌, ◌≤◌, length, take, drop, replicate, IfOk};
 ghost use Rattle.octets.specs.Octets.{put};
 ghost use Rattle.records.specs.Sizes.{event_size};
 ghost use Rattle.records.specs.Phone.{joined};
 ghost use Rattle.rules.specs.AcceptedImage.{AcceptedImage};
 ghost use Rattle.rules.specs.Step.{opened};
 ghost use Rattle.events.specs.Stepped.{SteppedAccepted};
-ghost use Rattle.reasons.specs.Lines.{most_lines};
-ghost use Rattle.timeline.specs.Timeline.{most_events};
-ghost use Rattle.monitor.specs.Told.{packed, Stepped, answer_size, answer_bytes, event_count, answered, Followed, Ran};
-ghost use Rattle.monitor.specs.Told.{why_packed, Asked, timeline_packed, UnrolledFor};
+ghost use Rattle.monitor.specs.Told.{packed, Stepped, answer_size, answer_bytes, event_count, answered, Followed, Ran, count_packed};
+ghost use Rattle.monitor.specs.Told.{Asked, UnrolledFor};
 
-use reasons::Why;
 use records::Event;
 use rules::Answer;
-use timeline::Unrolled;
 
 const ANSWER_SIZE: usize = 6;
 
@@ -33,8 +29,7 @@ fn pack(a: Answer) -> u64
 pub fn monitor_open(image: &[u8]) -> u64
     ensures { result ≡ packed (opened image.now) }
 {
-    let fault = opening::open(image);
-    pack(opening::told(image, fault))
+    pack(opening::told(image, opening::open(image)))
 }
 
 // One event: the answer as a number, from the low byte up links, domain, code, rule and two bytes of offset, and the image after it. Any bytes.
@@ -101,11 +96,9 @@ fn follow(image: &mut [u8], events: &[u8], answers: &mut [u8], n: usize)
     requires answer_size_in_bounds { n * answer_size ≤ length answers.old }
     ensures { Followed image.old events.now answers.old n image.new answers.new }
 {
-    let mut i = 0;
-    while i < n {
+    for i in 0..n {
         let a = one(image, events, i);
         tell(answers, i, a);
-        i += 1;
     }
 }
 
@@ -114,10 +107,8 @@ fn refuse(answers: &mut [u8], n: usize, a: Answer)
     requires { n * answer_size ≤ length answers.old }
     ensures { answers.new ≡ put answers.old 0 (joined answer_bytes (replicate n a)) }
 {
-    let mut i = 0;
-    while i < n {
+    for i in 0..n {
         tell(answers, i, a);
-        i += 1;
     }
 }
 
@@ -127,49 +118,44 @@ pub fn monitor_run(image: &mut [u8], events: &[u8], answers: &mut [u8]) -> usize
     ensures { Ran image.old events.now answers.old result image.new answers.new }
 {
     let n = answered(events.len(), answers.len());
-    let fault = opening::open(image);
-    if fault.rule != 0 {
-        refuse(answers, n, opening::told(image, fault));
+    let outcome = opening::open(image);
+    if outcome.is_err() {
+        refuse(answers, n, opening::told(image, outcome));
         return n;
     }
     follow(image, events, answers, n);
     n
 }
 
-// ---- why
+// ---- a count
 
-// An answer of `reasons` in one register.
-fn pack_why(w: Why) -> u64
-    requires { w.lines ≤ most_lines }
-    ensures { result ≡ why_packed w }
+// How many there are, or what is told of a refusal, in one register.
+fn pack_count(told: Result<usize, Answer>) -> u64
+    requires { IfOk told (λ n. n < 65536) }
+    ensures { result ≡ count_packed told }
 {
-    ((w.offset as u64 * 256 + w.rule as u64) * 256 + w.code as u64) * 65536 + w.lines as u64
+    match told {
+        Ok(n) => n as u64,
+        Err(a) => ((a.offset as u64 * 256 + a.rule as u64) * 256 + a.code as u64) * 65536,
+    }
 }
+
+// ---- why
 
 // Why an executable has its domain or has none: the answer as a number, from the low byte up two bytes of the number of lines, code, rule and
 // two bytes of offset, and in the buffer as many of the lines, three bytes each, as it has room for. Any bytes.
 pub fn monitor_why(image: &[u8], id: u16, lines: &mut [u8]) -> u64
     ensures { Asked image.now id lines.old result lines.new }
 {
-    let told = reasons::explain(image, id, lines);
-    pack_why(told)
+    pack_count(reasons::explain(image, id, lines))
 }
 
 // ---- timelines
-
-// An answer of `timeline` in one register.
-fn pack_timeline(u: Unrolled) -> u64
-    requires { u.count ≤ most_events }
-    ensures { result ≡ timeline_packed u }
-{
-    ((u.offset as u64 * 256 + u.rule as u64) * 256 + u.code as u64) * 65536 + u.count as u64
-}
 
 // The events of a timeline for an image, with the clock events put in, as many whole ones as the buffer has room for: the answer as a number, from
 // the low byte up two bytes of the number of events, code, rule and two bytes of offset, as monitor_why has them. To be run by monitor_run. Any bytes.
 pub fn monitor_timeline(image: &[u8], timeline: &[u8], events: &mut [u8]) -> u64
     ensures { UnrolledFor image.now timeline.now events.old result events.new }
 {
-    let told = timeline::unroll(image, timeline, events);
-    pack_timeline(told)
+    pack_count(timeline::unroll(image, timeline, events))
 }

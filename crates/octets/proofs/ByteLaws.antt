@@ -1,12 +1,13 @@
 -- Laws of bytes put in place and of numbers read after writing, each over the width. Assumes nothing.
-use mathlib.Core.{Path.{◌≡◌, refl, sym, ap, ap₂, ◌∙◌, subst}, Bool.false, List.{List, [], ◌∷◌, ◌++◌, append_assoc, append-nil}}
+use mathlib.Core.{Path.{◌≡◌, refl, sym, ap, ap₂, ◌∙◌, subst}, Bool.{Bool, true, false}, List.{List, [], ◌∷◌, ◌++◌, append_assoc, append-nil}}
 use Prim.Native.Nat.{ℕ, zero, suc, ◌+◌, ◌-◌, ◌*◌, ◌/◌, ◌%◌, ◌≤◌, ◌<◌}
 use native.{Mathlib.Nat.{add-zero, zero-add, add_assoc}, Mathlib.Numerals.add-one, Mathlib.Omega.arith}
-use borrow.Author.Tests.{ne_eqb}
+use borrow.Author.Tests.{eq-eqb, ne_eqb, eqb-true, eqb-false}
 use lib.Dec.{eqb}
-use lib.ListN.{length, get_or, take, drop, set, length-append, length-drop, length-replicate, get_or-append, take-append-drop, replicate-append-replicate}
-use lib.Seq.{sets, sets-eq, get_or-append-add, get_or-drop, get_or-take, length-take-le, set_at, drop-cons, take-suc}
-use Rattle.octets.specs.Octets.{be, bytes, put, zeros}
+use lib.ListN.{length, get_or, take, drop, set, length-append, length-drop, get_or-append, take-append-drop}
+use lib.Seq.{sets, sets-eq, get_or-append-add, get_or-drop, get_or-take, length-take-le, set_at, drop-cons, drop-drop, take-suc}
+use borrow.Rule.Slice.PartMut.{put_mid}
+use Rattle.octets.specs.Octets.{be, bytes, put}
 
 -- ---- a run put in place
 
@@ -19,6 +20,13 @@ unfolding put
 length_put l i vs h =
     let t : length (take i l) ≡ i = length-take-le i l (omega arith) in
     simp (length-append, length-drop) (omega arith)
+
+-- what `s[i..i + k]` holds, put back in place
+pub put_part : (l : List ℕ) (i k : ℕ) {m vs : List ℕ} → m ≡ vs → k ≡ length vs → put_mid i k l m ≡ put l i vs
+unfolding put
+put_part l i k {m} {vs} e n =
+    ap₂ (λ (x y : List ℕ). take i l ++ (x ++ y)) e (drop-drop k i l ∙ ap (λ (j : ℕ). drop (i + j) l) n)
+    ∙ sym (append_assoc (take i l) vs (drop (i + length vs) l))
 
 -- stores one after the other are a run put in place
 pub sets_put : (l : List ℕ) (i : ℕ) (vs : List ℕ) → i + length vs ≤ length l → sets l i vs ≡ put l i vs
@@ -33,15 +41,6 @@ put_more l i vs a h =
     let e : i + length (vs ++ (a ∷ [])) ≡ suc (i + length vs) = simp length-append (omega arith) in
     rw (drop-cons l (i + length vs) 0, e)
     (set_at (take i l ++ vs) (get_or l (i + length vs) 0) (drop (suc (i + length vs)) l) a (i + length vs) t ∙ simp append_assoc)
-
--- a store behind the run
-module _ (l : List ℕ) (i : ℕ) {m n : List ℕ} where
-  pub put_next : (vs : List ℕ) (a : ℕ) {j : ℕ} → m ≡ put l i vs → n ≡ set m j a → i + length vs ≡ j → j < length l → n ≡ put l i (vs ++ (a ∷ []))
-  put_next vs a {j} e q z h = q ∙ ap₂ (λ (x : List ℕ) (k : ℕ). set x k a) e (sym z) ∙ put_more l i vs a (omega arith)
-
-  pub zeros_next : (k : ℕ) → m ≡ put l i (zeros k) → n ≡ set m (i + k) 0 → i + k < length l → n ≡ put l i (zeros (k + 1))
-  zeros_next k e q h =
-      put_next (zeros k) 0 e q (ap (λ (x : ℕ). i + x) (length-replicate k 0)) h ∙ ap (put l i) (replicate-append-replicate k 1 0)
 
 -- ---- what stands in the run, and what stands outside
 
@@ -144,7 +143,30 @@ bytes_be (suc (suc w)) l b i h =
     (low (be (suc w) l i) x (b (i + suc w)) ∙ sym (get_or-drop i l (suc w) 0))
     ∙ sym (take-suc (drop i l) (suc w) 0 n)
 
+-- two tests of equal numbers that say the same
+same_test : (a b k n : ℕ) → (a ≡ b → k ≡ n) → (k ≡ n → a ≡ b) → eqb a b ≡ eqb k n
+same_test a b k n f g = by (eqb a b) refl
+  where
+    by : (t : Bool) → eqb a b ≡ t → t ≡ eqb k n
+    by true e = sym (eq-eqb k n (f (eqb-true a b e)))
+    by false e = sym (ne_eqb k n (λ q. eqb-false a b e (g q)))
+
 -- two bytes whose low byte is not that of n do not make n
 pub low_differs : (l : List ℕ) (i n b : ℕ) → b ≡ be 1 l (i + 1) → b < 256 → (b ≡ n % 256 → ⊥) → false ≡ eqb (be 2 l i) n
 unfolding be
 low_differs l i n b e h d = sym (ne_eqb (be 2 l i) n (λ q. d (omega arith)))
+
+-- two bytes make n where they are its own: the high one, once the low one is, and the low one, where it is not
+module _ (l : List ℕ) (i n : ℕ) {bs : List ℕ} (e : bs ≡ n / 256 % 256 ∷ n % 256 ∷ []) where
+  pub high_tells : get_or l (i + 1) 0 ≡ get_or bs 1 0 → get_or l (i + 1) 0 < 256 → n < 65536 → eqb (get_or l i 0) (get_or bs 0 0) ≡ eqb (be 2 l i) n
+  unfolding be
+  high_tells h b s =
+      let d = ap (λ m. get_or m 0 0) e in
+      let f = ap (λ m. get_or m 1 0) e in
+      same_test _ _ _ _ (λ q. omega arith) (λ q. omega arith)
+
+  pub low_tells : ¬ (get_or l (i + 1) 0 ≡ get_or bs 1 0) → get_or l (i + 1) 0 < 256 → eqb (get_or l (i + 1) 0) (get_or bs 1 0) ≡ eqb (be 2 l i) n
+  unfolding be
+  low_tells h b =
+      let f = ap (λ m. get_or m 1 0) e in
+      same_test _ _ _ _ (λ q. absurd (h q)) (λ q. omega arith)

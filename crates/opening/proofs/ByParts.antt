@@ -1,16 +1,17 @@
 -- A rule's answer by its parts, in the order of the code. Assumes nothing.
-use Prim.Native.Nat.{ℕ, ◌≤◌, ◌<◌}
-use mathlib.Core.{Bool.{Bool, true, false, cond, not, ◌&&◌, ◌||◌, true≢false, false≢true}, List.List, Logic.◌≢◌, Path.{◌≡◌, refl, sym, ap, ◌∙◌}}
-use native.Mathlib.Omega.{arith}
-use borrow.Author.Tests.{ne_eqb, not-true, not-false, lt-ltb, le-ltb}
-use lib.{Dec.{eqb, ltb}, ListN.length}
-use Rattle.records.specs.{Phone.{Seen, Phone, no_certificate, no_card, no_executable, no_row}, declared.Certificate.Certificate, declared.Card.Card}
+use Prim.Native.Nat.{ℕ}
+use mathlib.Core.{Bool.{Bool, true, false, cond, not, ◌&&◌, ◌||◌, true≢false, false≢true}, List.List, Logic.◌≢◌, Path.{◌≡◌, refl, sym, ap, ap₂, ◌∙◌, subst}}
+use Rattle.std.specs.Prelude.{Option, Some, None, MatchOption, IsSomeAnd, Result, Ok, Err, is_err}
+use borrow.Author.Tests.{ne_eqb, not-true}
+use lib.{Dec.{eqb}}
+use Rattle.records.specs.{Phone.{Seen, Phone}, declared.Certificate.Certificate, declared.Card.Card}
 use Rattle.rules.specs.{Words.{◌implies◌, all}, declared.Site.Site, declared.Fault.Fault, Effects.on_a_card}
-use Rattle.rules.specs.ImageRules.{card_owns, operator_of, valid_in, known_place, row_fits, slot_fits, cards_fit, present_known, places_known, i2, i3, i4, i5}
-use Rattle.rules.specs.ImageRules.{i6, i7, i8}
-use Rattle.rules.specs.{Parts.{apart, i5_with}, Faults.{lowest, of_certificates, of_executables, certificate_site, executable_site, i3_site, at_rule, no_fault}}
-use Rattle.laws.proofs.{Tests.{eq→eqb, or_i, eqb_turn}, Lists.all_in, Accepts.T_true, More.all_grows}
-use Rattle.laws.proofs.RulesGrow.{placed, answer_keeps, i5_spares, places_grow, cards_grow, i4_grows, i5_grows, i7_grows, i8_grows}
+use Rattle.rules.specs.ImageRules.{card_owns, operator_of, valid_in, known_place, cards_fit, present_known, places_known, i3}
+use Rattle.rules.specs.{Parts.{apart, i5_with}, Faults.{lowest, i3_site, at_rule}}
+use Rattle.laws.proofs.{Tests.{eq→eqb, or_i, eqb_turn}, Lists.all_in, Accepts.T_true}
+use Rattle.laws.proofs.{RulesGrow.i5_spares}
+use Rattle.sweep.specs.LowestBroken.{broken_at}
+use Rattle.opening.specs.Opened.{kept_or, kept_unless}
 
 -- ---- if the first, then the second
 
@@ -38,8 +39,12 @@ not_asked cards c t h = spared _ _ (sym t ∙ h)
 pub zero_apart : {A : Type 0} (f : A → ℕ) (n : ℕ) (l : List A) → n ≡ 0 → true ≡ all (λ y. apart n (f y)) l
 zero_apart f n l z = sym (T_true _ (all_in (λ y. apart n (f y)) l (λ y m. or_i (eqb n 0) (not (eqb n (f y))) (eq→eqb n 0 z))))
 
-pub not_same : (n m : ℕ) {b : Bool} → n ≢ 0 → b ≡ eqb m n → not b ≡ apart n m
-not_same n m z e = rw (ne_eqb n 0 z) (ap not (e ∙ eqb_turn m n))
+pub not_apart : (n m k : ℕ) {b : Bool} → k ≡ n → k ≢ 0 → b ≡ eqb m k → b ≡ not (apart n m)
+not_apart n m k q z e = rw (sym q, ne_eqb k 0 z) (e ∙ eqb_turn m k ∙ twice (eqb k m))
+  where
+    twice : (b : Bool) → b ≡ not (not b)
+    twice true = refl
+    twice false = refl
 
 -- I5 asks nothing of e, which was read as c
 pub i5_spared : (cards : List Card) (s : Seen) (l : List Certificate) {c e : Certificate} {x : Bool} → c ≡ e
@@ -47,112 +52,84 @@ pub i5_spared : (cards : List Card) (s : Seen) (l : List Certificate) {c e : Cer
 i5_spared cards s l {c} {e} {x} q t n =
     i5_spares cards s e (ap (λ y. valid_in 1 s.clock y || valid_in 2 s.clock y) (sym q) ∙ sym t ∙ not-true x n) l
 
--- ---- whether there is a record
+-- ---- what is told of a rule: that its lowest record breaks it, or that it is kept
 
--- of n records, record i is one, or is none
-module _ (a b : Fault) {i n k : ℕ} (e : n ≡ k) where
-  pub there : i < n → a ≡ cond (ltb i k) a b
-  there h = rw (lt-ltb i k (omega arith))
+-- a record i is told as the site `to i`, by a step that gives m for o, and r for m
+pub told_at : {A : Type 0} (rule : List A → Bool) (l : List A) (n : ℕ) (to : ℕ → Site) {o : Option ℕ} (m : Option Site) {r : Result Unit Fault}
+    {gives : ℕ → Site → Type 0} → o ≡ broken_at rule l → MatchOption o (m ≡ None) (λ i. IsSomeAnd m (gives i))
+    → ((i : ℕ) (site : Site) → gives i site → site ≡ to i) → r ≡ kept_unless n m → r ≡ kept_or (rule l) (at_rule n (to (lowest rule l)))
+unfolding broken_at
+told_at rule l n to {o} m {r} {gives} e c h q = go (rule l) e
+  where
+    site_told : (i : ℕ) (m : Option Site) → IsSomeAnd m (gives i) → kept_unless n m ≡ Err (at_rule n (to i))
+    site_told i (Some site) g = ap (λ site. Err (at_rule n site)) (h i site g)
+    site_told i None g = absurd g
 
-  pub nowhere : n ≤ i → b ≡ cond (ltb i k) a b
-  nowhere h = rw (le-ltb i k (omega arith))
+    go : (b : Bool) → o ≡ cond b None (Some (lowest rule l)) → r ≡ kept_or b (at_rule n (to (lowest rule l)))
+    go true e = q ∙ ap (kept_unless n) (subst (λ o. MatchOption o (m ≡ None) (λ i. IsSomeAnd m (gives i))) e c)
+    go false e = q ∙ site_told (lowest rule l) m (subst (λ o. MatchOption o (m ≡ None) (λ i. IsSomeAnd m (gives i))) e c)
 
--- ---- I3: the card present, the places, then the cards; r is what is told
+-- what q told of a rule is passed on as it is, or the rule is kept
+pub keeps : {b : Bool} (f : Fault) {q : Result Unit Fault} {x : Unit {0}} → q ≡ kept_or b f → q ≡ Ok x → b ≡ true
+keeps {b} f {q} {x} e o = go b e
+  where
+    go : (b : Bool) → q ≡ kept_or b f → b ≡ true
+    go true e = refl
+    go false e = absurd (true≢false (ap is_err (sym e ∙ o)))
 
-module _ (r : Fault) where
-  abbrev third : Bool → Bool → Bool → Site → Site → Fault
-  third cards present places c k =
-      cond ((cards && present) && places) no_fault (at_rule 3 (cond (not present) (Site.Header 12) (cond (not places) c k)))
+pub breaks : {b : Bool} {f g : Fault} {q : Result Unit Fault} → q ≡ kept_or b f → q ≡ Err g → (b ≡ false) × (q ≡ Err f)
+breaks {b} {f} {g} {q} e o = go b e
+  where
+    go : (b : Bool) → q ≡ kept_or b f → (b ≡ false) × (q ≡ Err f)
+    go true e = absurd (false≢true (ap is_err (sym e ∙ o)))
+    go false e = (refl, e)
 
-  no_present : (cards present places : Bool) (c k : Site) → present ≡ false → at_rule 3 (Site.Header 12) ≡ third cards present places c k
-  no_present true false places c k e = refl
-  no_present false false places c k e = refl
-  no_present cards true places c k e = absurd (true≢false e)
-
-  no_place : (cards present places : Bool) (c k : Site) → present ≡ true → r ≡ cond places no_fault (at_rule 3 c) → r.rule ≢ 0
-      → r ≡ third cards present places c k
-  no_place cards false places c k e q z = absurd (false≢true e)
-  no_place cards true true c k e q z = absurd (z (ap (λ f. f.rule) q))
-  no_place true true false c k e q z = q
-  no_place false true false c k e q z = q
-
-  no_card_left : (cards present places : Bool) (c k : Site) → present ≡ true → places ≡ true → r ≡ cond cards no_fault (at_rule 3 k)
-      → r ≡ third cards present places c k
-  no_card_left cards false places c k e f q = absurd (false≢true e)
-  no_card_left cards true false c k e f q = absurd (false≢true f)
-  no_card_left true true true c k e f q = q
-  no_card_left false true true c k e f q = q
+-- ---- I3: the card present, the places, then the cards
 
 module _ (p : Phone) where
-  abbrev certificates : List Certificate
-  certificates = p.trust.certificates
-
   abbrev cards : Bool
   cards = cards_fit p.cards
 
   abbrev places : Bool
-  places = places_known p.cards certificates
+  places = places_known p.cards p.trust.certificates
 
-  abbrev at_place : Site
-  at_place = Site.Certificate (lowest (places_known p.cards) certificates)
+  abbrev at_place : Fault
+  at_place = at_rule 3 (Site.Certificate (lowest (places_known p.cards) p.trust.certificates))
 
-  abbrev at_card : Site
-  at_card = Site.Card (lowest cards_fit p.cards)
+  abbrev at_card : Fault
+  at_card = at_rule 3 (Site.Card (lowest cards_fit p.cards))
 
-  -- what is told of record i: nothing where there is none
-  abbrev Told : ℕ → ℕ → Site → ℕ → Fault → Type 0
-  Told rule i site n r = r ≡ cond (ltb i n) (at_rule rule site) no_fault
+  -- by whether the cards fit, the card present is known, and the places are
+  abbrev third : Bool → Bool → Bool → Result Unit Fault
+  third a b c = kept_or ((a && b) && c) (at_rule 3 (cond (not b) (Site.Header 12) (cond (not c) at_place.site at_card.site)))
+
+  no_present : (a b : Bool) → Err (at_rule 3 (Site.Header 12)) ≡ third a false b
+  no_present true b = refl
+  no_present false b = refl
+
+  no_place : (b : Bool) → Err at_place ≡ third b true false
+  no_place true = refl
+  no_place false = refl
+
+  cards_left : (b : Bool) → kept_or b at_card ≡ third b true true
+  cards_left true = refl
+  cards_left false = refl
 
   -- n is the card present, and b whether it is known
   module _ {n : ℕ} {b : Bool} (present : n ≡ p.trust.seen.card) (known : b ≡ known_place p.cards n) where
-    whether : present_known p ≡ b
-    whether = ap (known_place p.cards) (sym present) ∙ sym known
+    whether : b ≡ present_known p
+    whether = known ∙ ap (known_place p.cards) present
 
-    pub i3_present : not b ≡ true → at_rule 3 (Site.Header 12) ≡ cond (i3 p) no_fault (at_rule 3 (i3_site p))
-    unfolding i3 i3_site cards_fit
-    i3_present e = no_present no_fault cards (present_known p) places at_place at_card (whether ∙ not-true b e)
+    pub i3_present : b ≡ false → {r : Result Unit Fault} → r ≡ Err (at_rule 3 (Site.Header 12)) → r ≡ kept_or (i3 p) (at_rule 3 (i3_site p))
+    unfolding i3 i3_site
+    i3_present z o = o ∙ no_present cards places ∙ ap (λ b. third cards b places) (sym z ∙ whether)
 
-    module _ (e : not b ≡ false) {i : ℕ} {q : Fault} (lowest-place : i ≡ lowest (places_known p.cards) certificates)
-        (at : Told 3 i (Site.Certificate i) (length certificates) q) where
-      answer : q ≡ cond places no_fault (at_rule 3 at_place)
-      answer = placed (places_grow p.cards) no_certificate certificates no_fault (λ i. at_rule 3 (Site.Certificate i)) lowest-place at
+    -- q is what is told of the places
+    module _ (yes : b ≡ true) {q r : Result Unit Fault} (placed : q ≡ kept_or places at_place) where
+      pub i3_places : {f : Fault} → q ≡ Err f → r ≡ q → r ≡ kept_or (i3 p) (at_rule 3 (i3_site p))
+      unfolding i3 i3_site
+      i3_places o t = let k = breaks placed o in t ∙ k.1 ∙ no_place cards ∙ ap₂ (third cards) (sym yes ∙ whether) (sym k.0)
 
-      pub i3_places : q.rule ≢ 0 → q ≡ cond (i3 p) no_fault (at_rule 3 (i3_site p))
-      unfolding i3 i3_site cards_fit
-      i3_places z = no_place q cards (present_known p) places at_place at_card (whether ∙ not-false b e) answer z
-
-      pub i3_cards : {k : ℕ} {r : Fault} → q.rule ≡ 0 → k ≡ lowest cards_fit p.cards → Told 3 k (Site.Card k) (length p.cards) r
-          → r ≡ cond (i3 p) no_fault (at_rule 3 (i3_site p))
-      unfolding i3 i3_site cards_fit
-      i3_cards {k} {r} z a o =
-          no_card_left r cards (present_known p) places at_place at_card (whether ∙ not-false b e)
-          (answer_keeps places no_fault (at_rule 3 at_place) answer (λ f. omega arith) z)
-          (placed cards_grow no_card p.cards no_fault (λ i. at_rule 3 (Site.Card i)) a o)
-
-  -- ---- the others: the lowest record of a rule by those of its parts
-
-  pub i2_told : {i : ℕ} {r : Fault} → i ≡ lowest (all slot_fits) certificates → Told 2 i (Site.Certificate i) (length certificates) r
-      → r ≡ cond (i2 p) no_fault (at_rule 2 (certificate_site i2 p))
-  unfolding i2
-  i2_told e q = placed (all_grows slot_fits) no_certificate certificates no_fault (λ i. at_rule 2 (Site.Certificate i)) e q
-
-  pub i4_told : {i : ℕ} {r : Fault} → i ≡ lowest (of_certificates i4 p) certificates → Told 4 i (Site.Certificate i) (length certificates) r
-      → r ≡ cond (i4 p) no_fault (at_rule 4 (certificate_site i4 p))
-  i4_told e q = placed (i4_grows p) no_certificate certificates no_fault (λ i. at_rule 4 (Site.Certificate i)) e q
-
-  pub i5_told : {i : ℕ} {r : Fault} → i ≡ lowest (of_certificates i5 p) certificates → Told 5 i (Site.Certificate i) (length certificates) r
-      → r ≡ cond (i5 p) no_fault (at_rule 5 (certificate_site i5 p))
-  i5_told e q = placed (i5_grows p) no_certificate certificates no_fault (λ i. at_rule 5 (Site.Certificate i)) e q
-
-  pub i6_told : {i : ℕ} {r : Fault} → i ≡ lowest (all row_fits) p.table → Told 6 i (Site.Row i) (length p.table) r
-      → r ≡ cond (i6 p) no_fault (at_rule 6 (Site.Row (lowest (all row_fits) p.table)))
-  unfolding i6
-  i6_told e q = placed (all_grows row_fits) no_row p.table no_fault (λ i. at_rule 6 (Site.Row i)) e q
-
-  pub i7_told : {i : ℕ} {r : Fault} → i ≡ lowest (of_executables i7 p) p.executables → Told 7 i (Site.Executable i) (length p.executables) r
-      → r ≡ cond (i7 p) no_fault (at_rule 7 (executable_site i7 p))
-  i7_told e q = placed (i7_grows p) no_executable p.executables no_fault (λ i. at_rule 7 (Site.Executable i)) e q
-
-  pub i8_told : {i : ℕ} {r : Fault} → i ≡ lowest (of_executables i8 p) p.executables → Told 8 i (Site.Executable i) (length p.executables) r
-      → r ≡ cond (i8 p) no_fault (at_rule 8 (executable_site i8 p))
-  i8_told e q = placed (i8_grows p) no_executable p.executables no_fault (λ i. at_rule 8 (Site.Executable i)) e q
+      pub i3_cards : {x : Unit {0}} → q ≡ Ok x → r ≡ kept_or cards at_card → r ≡ kept_or (i3 p) (at_rule 3 (i3_site p))
+      unfolding i3 i3_site
+      i3_cards o t = t ∙ cards_left cards ∙ ap₂ (third cards) (sym yes ∙ whether) (sym (keeps at_place placed o))

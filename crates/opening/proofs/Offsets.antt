@@ -1,13 +1,17 @@
 -- What is told of an image: the byte of what is wrong, which is that of a record by its number, and the answer. Assumes nothing.
 use Prim.Native.Nat.{ℕ, ◌+◌, ◌*◌, ◌≤◌, ◌<◌}
-use mathlib.Core.{Bool.{Bool, true, false, cond}, List.List, Path.{◌≡◌, refl, sym, ap, ◌∙◌, subst}}
+use mathlib.Core.{Bool.{Bool, true, false, cond, not}, List.List, Path.{◌≡◌, refl, sym, ap, ◌∙◌, subst}}
 use native.Mathlib.Omega.{arith}
+use mir.Val.{bool_byte}
 use lib.{Dec.eqb, ListN.length}
-use Rattle.records.specs.{Sizes.{header_size, certificate_size, card_size, executable_size, row_size}, Phone.{decode, cards_at, executables_at, table_at}}
+use Rattle.std.specs.Prelude.{Result, Ok, Err}
+use Rattle.records.specs.{Sizes.{header_size, card_size, executable_size, row_size}, Phone.{decode, cards_at, executables_at, table_at}}
 use Rattle.records.specs.Frame.{framed}
 use Rattle.records.proofs.{Said.{length_certificates, length_cards, length_executables}, FrameFacts.fields}
 use Rattle.rules.specs.{declared.Answer.Answer, declared.Site.Site, declared.Fault.Fault, ImageRules.{accepted, «open»}}
-use Rattle.rules.specs.{Faults.{offset_of, fault, fault_offset}, Step.{answer_done, refused_at, opened}, FaultNames.Within}
+use Rattle.rules.specs.{Faults.{offset_of, no_fault, fault, fault_offset}, Step.{answer_done, refused_at, opened}, FaultNames.Within}
+use Rattle.opening.specs.Opened.{opening}
+use Rattle.opening.proofs.ByParts.{keeps, breaks}
 use Rattle.laws.proofs.Where.{accepted_no_fault, fault_within, offset_small}
 
 -- accepted or not: an accepted image has no fault
@@ -19,6 +23,20 @@ opened_told l = go (accepted l) refl
         → cond b (answer_done 0 0) (refused_at l) ≡ record { code = cond b 0 1; domain = 0; links = 0; rule = (fault l).rule; offset = fault_offset l }
     go true e = rw (accepted_no_fault l e) refl
     go false e = refl
+
+-- q is what opening l gave, and what it is told with is the fault of l
+module _ (l : List ℕ) {q : Result Unit Fault} (e : q ≡ opening l) where
+  pub no_fault_told : {x : Unit {0}} → q ≡ Ok x → no_fault ≡ fault l
+  unfolding opening
+  no_fault_told o = sym (accepted_no_fault l (keeps (fault l) e o))
+
+  pub fault_told : {f : Fault} → q ≡ Err f → f ≡ fault l
+  unfolding opening
+  fault_told o = ap held (sym o ∙ (breaks e o).1)
+    where
+      held : Result Unit Fault → Fault
+      held (Ok x) = no_fault
+      held (Err f) = f
 
 -- a framed image has a header
 headed : (l : List ℕ) → framed l ≡ true → header_size ≤ length l
@@ -44,12 +62,6 @@ module _ (l : List ℕ) {f : Fault} (e : f ≡ fault l) where
   -- ---- the byte of record i; a is where the records start, as the header has it
 
   module _ {i : ℕ} where
-    pub header_stands : f.site ≡ Site.Header i → 0 + 1 * i ≡ fault_offset l
-    header_stands at = let s = stands at in omega arith
-
-    pub certificate_stands : f.site ≡ Site.Certificate i → header_size + certificate_size * i ≡ fault_offset l
-    certificate_stands at = let s = stands at in omega arith
-
     pub card_headed : f.site ≡ Site.Card i → header_size ≤ length l
     card_headed at = headed l (within at).0
 
@@ -69,9 +81,13 @@ module _ (l : List ℕ) {f : Fault} (e : f ≡ fault l) where
     row_stands at q =
         let s = stands at in let w = fields l (within at).0 in omega (arith, length_certificates l, length_cards l, length_executables l)
 
-  -- ---- the answer; o is that byte
+  -- ---- the answer; o is that byte, and c the code
 
-  pub tells : {o : ℕ} → o ≡ fault_offset l → {c : ℕ} → c ≡ cond (eqb f.rule 0) 0 1
+  pub tells : {o : ℕ} → o ≡ fault_offset l → {c : ℕ} → c ≡ bool_byte (not (eqb f.rule 0))
       → ◌≡◌ {A = Answer} (record { code = c; domain = 0; links = 0; rule = f.rule; offset = o }) (opened l)
   unfolding «open» accepted fault
-  tells q p = cc (opened_told l)
+  tells q p = cc (opened_told l, turn (accepted l))
+    where
+      turn : (b : Bool) → bool_byte (not b) ≡ cond b 0 1
+      turn true = refl
+      turn false = refl

@@ -1,18 +1,21 @@
 -- What opening an image tells. Definitions only.
-use Rattle.std.specs.Prelude.{ℕ}
-use mathlib.Core.{Bool.true, List.List, Path.◌≡◌}
-use Rattle.records.specs.{Phone.decode, Frame.framed}
-use Rattle.rules.specs.{ImageRules.{i2, i3, i4, i5}, Faults.fault, declared.Fault.Fault, AcceptedImage.AcceptedImage}
+use Rattle.std.specs.Prelude.{ℕ, Bool, cond, Option, Some, None, Result, Ok, Err}
+use mathlib.Core.{List.List, Path.◌≡◌}
+use Rattle.rules.specs.{ImageRules.accepted, Faults.{at_rule, fault}, declared.Site.Site, declared.Fault.Fault, AcceptedImage.AcceptedImage}
+
+-- a rule is kept, or there is a fault
+abbrev pub kept_or : Bool → Fault → Result Unit Fault
+kept_or kept f = cond kept (Ok tt) (Err f)
+
+-- a rule is kept, unless it is broken at a site
+abbrev pub kept_unless : ℕ → Option Site → Result Unit Fault
+kept_unless rule None = Ok tt
+kept_unless rule (Some site) = Err (at_rule rule site)
 
 -- "Opening an image .. should also tell the first broken rule, 1 to 8, and a byte offset"
-pub record Opened (l : List ℕ) (r : Fault) : Type 0 where
-  pub answer : r ≡ fault l
-  pub promise : r.rule ≡ 0 → AcceptedImage l
+unfoldable pub opening : List ℕ → Result Unit Fault
+opening l = kept_or (accepted l) (fault l)
 
--- the rules up to I5 are kept
-pub record Kept (l : List ℕ) : Type 0 where
-  pub framed : framed l ≡ true
-  pub i2 : i2 (decode l) ≡ true
-  pub i3 : i3 (decode l) ≡ true
-  pub i4 : i4 (decode l) ≡ true
-  pub i5 : i5 (decode l) ≡ true
+pub record Opened (l : List ℕ) (r : Result Unit Fault) : Type 0 where
+  pub answer : r ≡ opening l
+  pub promise : r ≡ Ok tt → AcceptedImage l

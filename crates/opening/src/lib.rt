@@ -3,199 +3,108 @@
 
 mod sweeps;
 
-ghost use Rattle.std.specs.Prelude.{true, cond, ◌≡◌, ◌+◌, ◌*◌, T, eqb, ltb, length};
+ghost use Rattle.std.specs.Prelude.{true, ◌≡◌, ◌+◌, ◌*◌, T};
 ghost use Rattle.records.specs.Phone.{decode};
 ghost use Rattle.records.specs.Frame.{framed, Framed};
 ghost use Rattle.rules.specs.Words.{all};
 ghost use Rattle.rules.specs.ImageRules.{row_fits, i2, i3, i4, i5, i6, i7, i8};
-ghost use Rattle.rules.specs.Faults.{lowest, certificate_site, executable_site, i3_site, no_fault, at_rule, fault, fault_offset};
+ghost use Rattle.rules.specs.Faults.{lowest, certificate_site, executable_site, i3_site, at_rule, fault, fault_offset};
 ghost use Rattle.rules.specs.Step.{opened};
-ghost use Rattle.opening.specs.Opened.{Kept, Opened};
+ghost use Rattle.opening.specs.Opened.{kept_or, kept_unless, opening, Opened};
 
 use records::{Card, Certificate, Executable, Header, Row, image};
 use rules::{Answer, Fault, Site};
 
-// ---- a record that breaks a rule, if there is one
-
-fn no_fault() -> Fault
-    ensures { result ≡ no_fault }
-{
-    Fault {
-        rule: 0,
-        site: Site::Header(0),
-    }
-}
-
-fn at_certificate(s: &[u8], rule: u8, i: usize) -> Fault
-    requires { Framed s.now }
-    ensures { result ≡ cond (ltb i (length (decode s.now).trust.certificates)) (at_rule rule (Site.Certificate i)) no_fault }
-{
-    if i < image::certificate_slots(s) {
-        return Fault {
-            rule: rule,
-            site: Site::Certificate(i),
-        };
-    }
-    no_fault()
-}
-
-fn at_card(s: &[u8], rule: u8, i: usize) -> Fault
-    requires { Framed s.now }
-    ensures { result ≡ cond (ltb i (length (decode s.now).cards)) (at_rule rule (Site.Card i)) no_fault }
-{
-    if i < image::card_count(s) {
-        return Fault {
-            rule: rule,
-            site: Site::Card(i),
-        };
-    }
-    no_fault()
-}
-
-fn at_executable(s: &[u8], rule: u8, i: usize) -> Fault
-    requires { Framed s.now }
-    ensures { result ≡ cond (ltb i (length (decode s.now).executables)) (at_rule rule (Site.Executable i)) no_fault }
-{
-    if i < image::executable_slots(s) {
-        return Fault {
-            rule: rule,
-            site: Site::Executable(i),
-        };
-    }
-    no_fault()
-}
-
-fn at_row(s: &[u8], rule: u8, i: usize) -> Fault
-    requires { Framed s.now }
-    ensures { result ≡ cond (ltb i (length (decode s.now).table)) (at_rule rule (Site.Row i)) no_fault }
-{
-    if i < image::action_count(s) {
-        return Fault {
-            rule: rule,
-            site: Site::Row(i),
-        };
-    }
-    no_fault()
-}
-
 // ---- the rules
 
-fn i2(s: &[u8]) -> Fault
-    requires { Framed s.now }
-    ensures { result ≡ cond (i2 (decode s.now)) no_fault (at_rule 2 (certificate_site i2 (decode s.now))) }
+// What is told of a rule: the site where it is broken, if it is.
+fn broken(rule: u8, at: Option<Site>) -> Result<(), Fault>
+    ensures { result ≡ kept_unless rule at }
 {
-    at_certificate(s, 2, sweeps::slots_fit(s))
+    match at {
+        Some(site) => Err(Fault { rule, site }),
+        None => Ok(()),
+    }
+}
+
+fn i2(s: &[u8]) -> Result<(), Fault>
+    requires { Framed s.now }
+    ensures { result ≡ kept_or (i2 (decode s.now)) (at_rule 2 (certificate_site i2 (decode s.now))) }
+{
+    broken(2, sweeps::slots_fit(s).map(Site::Certificate))
 }
 
 // The card present, then certificates, which stand below the cards.
-fn i3(s: &[u8]) -> Fault
+fn i3(s: &[u8]) -> Result<(), Fault>
     requires { Framed s.now }
-    ensures { result ≡ cond (i3 (decode s.now)) no_fault (at_rule 3 (i3_site (decode s.now))) }
+    ensures { result ≡ kept_or (i3 (decode s.now)) (at_rule 3 (i3_site (decode s.now))) }
 {
     if !lookup::known_place(s, image::card_present(s)) {
-        return Fault {
-            rule: 3,
-            site: Site::Header(Header::CARD),
-        };
+        return broken(3, Some(Site::Header(Header::CARD)));
     }
-    let placed = at_certificate(s, 3, sweeps::places_known(s));
-    if placed.rule != 0 {
-        return placed;
-    }
-    at_card(s, 3, sweeps::cards(s))
+    broken(3, sweeps::places_known(s).map(Site::Certificate))?;
+    broken(3, sweeps::cards(s).map(Site::Card))
 }
 
-fn i4(s: &[u8]) -> Fault
+fn i4(s: &[u8]) -> Result<(), Fault>
     requires { Framed s.now }
-    ensures { result ≡ cond (i4 (decode s.now)) no_fault (at_rule 4 (certificate_site i4 (decode s.now))) }
+    ensures { result ≡ kept_or (i4 (decode s.now)) (at_rule 4 (certificate_site i4 (decode s.now))) }
 {
-    at_certificate(s, 4, sweeps::i4(s))
+    broken(4, sweeps::i4(s).map(Site::Certificate))
 }
 
-fn i5(s: &[u8]) -> Fault
+fn i5(s: &[u8]) -> Result<(), Fault>
     requires { Framed s.now }
-    ensures { result ≡ cond (i5 (decode s.now)) no_fault (at_rule 5 (certificate_site i5 (decode s.now))) }
+    ensures { result ≡ kept_or (i5 (decode s.now)) (at_rule 5 (certificate_site i5 (decode s.now))) }
 {
-    at_certificate(s, 5, sweeps::i5(s))
+    broken(5, sweeps::i5(s).map(Site::Certificate))
 }
 
-fn i6(s: &[u8]) -> Fault
+fn i6(s: &[u8]) -> Result<(), Fault>
     requires { Framed s.now }
-    ensures { result ≡ cond (i6 (decode s.now)) no_fault (at_rule 6 (Site.Row (lowest (all row_fits) (decode s.now).table))) }
+    ensures { result ≡ kept_or (i6 (decode s.now)) (at_rule 6 (Site.Row (lowest (all row_fits) (decode s.now).table))) }
 {
-    at_row(s, 6, sweeps::rows_fit(s))
+    broken(6, sweeps::rows_fit(s).map(Site::Row))
 }
 
-fn i7(s: &[u8]) -> Fault
+fn i7(s: &[u8]) -> Result<(), Fault>
     requires { Framed s.now }
-    ensures { result ≡ cond (i7 (decode s.now)) no_fault (at_rule 7 (executable_site i7 (decode s.now))) }
+    ensures { result ≡ kept_or (i7 (decode s.now)) (at_rule 7 (executable_site i7 (decode s.now))) }
 {
-    at_executable(s, 7, sweeps::i7(s))
+    broken(7, sweeps::i7(s).map(Site::Executable))
 }
 
-fn i8(s: &[u8]) -> Fault
+fn i8(s: &[u8]) -> Result<(), Fault>
     requires framed { Framed s.now }
     requires t { T (i7 (decode s.now)) }
-    ensures { result ≡ cond (i8 (decode s.now)) no_fault (at_rule 8 (executable_site i8 (decode s.now))) }
+    ensures { result ≡ kept_or (i8 (decode s.now)) (at_rule 8 (executable_site i8 (decode s.now))) }
 {
-    at_executable(s, 8, chain::first_unchained(s))
-}
-
-// ---- all of them
-
-// The rules from I6 on.
-fn last_fault(s: &[u8]) -> Fault
-    requires framed { Framed s.now }
-    requires kept { Kept s.now }
-    ensures { Opened s.now result }
-{
-    let found = i6(s);
-    if found.rule != 0 {
-        return found;
-    }
-    let found = i7(s);
-    if found.rule != 0 {
-        return found;
-    }
-    i8(s)
+    broken(8, chain::first_unchained(s).map(Site::Executable))
 }
 
 // The rules from I2 on.
-fn next_fault(s: &[u8]) -> Fault
+fn open_framed(s: &[u8]) -> Result<(), Fault>
     requires framed { Framed s.now }
     requires s_value { framed s.now ≡ true }
     ensures { Opened s.now result }
 {
-    let found = i2(s);
-    if found.rule != 0 {
-        return found;
-    }
-    let found = i3(s);
-    if found.rule != 0 {
-        return found;
-    }
-    let found = i4(s);
-    if found.rule != 0 {
-        return found;
-    }
-    let found = i5(s);
-    if found.rule != 0 {
-        return found;
-    }
-    last_fault(s)
+    i2(s)?;
+    i3(s)?;
+    i4(s)?;
+    i5(s)?;
+    i6(s)?;
+    i7(s)?;
+    i8(s)
 }
 
-// Any bytes: the first broken rule and where, or 0 and the first byte.
-pub fn open(s: &[u8]) -> Fault
+// Any bytes: whether they are an accepted image, and if not, the first broken rule and where.
+pub fn open(s: &[u8]) -> Result<(), Fault>
     ensures { Opened s.now result }
 {
     if !image::is_framed(s) {
-        return Fault {
-            rule: 1,
-            site: Site::Header(image::header_fault(s)),
-        };
+        return broken(1, Some(Site::Header(image::header_fault(s))));
     }
-    next_fault(s)
+    open_framed(s)
 }
 
 // ---- what is told of it
@@ -252,26 +161,31 @@ fn offset(s: &[u8], f: Fault) -> u16
     (here.at + here.size * here.index) as u16
 }
 
-// "opening an image answers 0 or 1".
-fn code(rule: u8) -> u8
-    ensures { result ≡ cond (eqb rule 0) 0 1 }
+// An accepted image has rule 0 at its first byte, and is told in the same way, so that a refused one costs no more.
+fn fault_of(s: &[u8], outcome: Result<(), Fault>) -> Fault
+    requires { outcome ≡ opening s.now }
+    ensures { result ≡ fault s.now }
 {
-    if rule == 0 {
-        return 0;
+    match outcome {
+        Ok(()) => Fault {
+            rule: 0,
+            site: Site::Header(0),
+        },
+        Err(fault) => fault,
     }
-    1
 }
 
-// What an image is told, accepted or not. Both are made in the same way, so that a refused one costs no more than an accepted one.
-pub fn told(s: &[u8], f: Fault) -> Answer
-    requires { f ≡ fault s.now }
+// What an image is told, accepted or not, by what opening it gave.
+pub fn told(s: &[u8], outcome: Result<(), Fault>) -> Answer
+    requires { outcome ≡ opening s.now }
     ensures { result ≡ opened s.now }
 {
+    let found = fault_of(s, outcome);
     Answer {
-        code: code(f.rule),
+        code: u8::from(found.rule != 0),
         domain: 0,
         links: 0,
-        rule: f.rule,
-        offset: offset(s, f),
+        rule: found.rule,
+        offset: offset(s, found),
     }
 }

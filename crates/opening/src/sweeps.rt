@@ -1,4 +1,4 @@
-// The sweeps of the rules: each tells the lowest record that breaks a rule, alone or with lower ones, or the number of records.
+// The sweeps of the rules: each tells the lowest record that breaks a rule, alone or with lower ones, if one does.
 ghost use Rattle.std.specs.Prelude.{◌&&◌, ◌||◌, ◌≡◌, ◌≤◌, ◌<◌, length, take};
 ghost use Rattle.records.specs.Phone.{decode, certificate_at, card_at, executable_at};
 ghost use Rattle.records.specs.Frame.{Framed};
@@ -7,42 +7,33 @@ ghost use Rattle.rules.specs.ImageRules.{valid_in, known_place, key_of_one_domai
 ghost use Rattle.rules.specs.ImageRules.{slot_fits, cards_fit, not_both, owned_by_card};
 ghost use Rattle.rules.specs.Parts.{apart, card_with, i5_pair, executable_with};
 ghost use Rattle.opening.specs.Lower.{i4_at, i5_at, i5_pairs};
-ghost use Rattle.rules.specs.Faults.{lowest, of_certificates, of_executables};
+ghost use Rattle.sweep.specs.LowestBroken.{broken_at};
+ghost use Rattle.rules.specs.Faults.{of_certificates, of_executables};
 
 use records::{Certificate, image};
 
 // ---- I2 Certificate
 
-pub fn slots_fit(s: &[u8]) -> usize
+pub fn slots_fit(s: &[u8]) -> Option<usize>
     requires { Framed s.now }
-    ensures { result ≡ lowest (all slot_fits) (decode s.now).trust.certificates }
+    ensures { result ≡ broken_at (all slot_fits) (decode s.now).trust.certificates }
 {
-    let slots = image::certificate_slots(s);
-    let mut i: usize = 0;
-    while i < slots {
-        if !terms::slot_fits(image::certificate(s, i)) {
-            return i;
-        }
-        i += 1;
-    }
-    slots
+    sweep::first(
+        image::certificate_slots(s),
+        |i| !terms::slot_fits(image::certificate(s, i)),
+    )
 }
 
 // ---- I3 Card
 
-pub fn places_known(s: &[u8]) -> usize
+pub fn places_known(s: &[u8]) -> Option<usize>
     requires { Framed s.now }
-    ensures { result ≡ lowest (all (λ c. known_place (decode s.now).cards c.place)) (decode s.now).trust.certificates }
+    ensures { result ≡ broken_at (all (λ c. known_place (decode s.now).cards c.place)) (decode s.now).trust.certificates }
 {
-    let slots = image::certificate_slots(s);
-    let mut i: usize = 0;
-    while i < slots {
-        if !lookup::known_place(s, image::certificate(s, i).place) {
-            return i;
-        }
-        i += 1;
-    }
-    slots
+    sweep::first(
+        image::certificate_slots(s),
+        |i| !lookup::known_place(s, image::certificate(s, i).place),
+    )
 }
 
 // Whether no card below card i has its number.
@@ -51,15 +42,8 @@ fn number_apart(s: &[u8], i: usize) -> bool
     requires i_in_bounds { i < length (decode s.now).cards }
     ensures { result ≡ all (λ y. apart (card_at (decode s.now) i).number y.number) (take i (decode s.now).cards) }
 {
-    let k = image::card(s, i);
-    let mut j: usize = 0;
-    while j < i {
-        if !terms::apart(k.number, image::card(s, j).number) {
-            return false;
-        }
-        j += 1;
-    }
-    true
+    let n = image::card(s, i).number;
+    sweep::first(i, |j| !terms::apart(n, image::card(s, j).number)).is_none()
 }
 
 fn card_with(s: &[u8], i: usize) -> bool
@@ -70,19 +54,11 @@ fn card_with(s: &[u8], i: usize) -> bool
     terms::card_fits(image::card(s, i)) & number_apart(s, i)
 }
 
-pub fn cards(s: &[u8]) -> usize
+pub fn cards(s: &[u8]) -> Option<usize>
     requires { Framed s.now }
-    ensures { result ≡ lowest cards_fit (decode s.now).cards }
+    ensures { result ≡ broken_at cards_fit (decode s.now).cards }
 {
-    let cards = image::card_count(s);
-    let mut i: usize = 0;
-    while i < cards {
-        if !card_with(s, i) {
-            return i;
-        }
-        i += 1;
-    }
-    cards
+    sweep::first(image::card_count(s), |i| !card_with(s, i))
 }
 
 // ---- I4
@@ -97,14 +73,7 @@ fn id_apart(s: &[u8], i: usize) -> bool
     if id == 0 {
         return true;
     }
-    let mut j: usize = 0;
-    while j < i {
-        if image::certificate_has_id(s, j, id) {
-            return false;
-        }
-        j += 1;
-    }
-    true
+    sweep::first(i, |j| image::certificate_has_id(s, j, id)).is_none()
 }
 
 // Whether no certificate below certificate i, and of another domain, has its key.
@@ -114,14 +83,11 @@ fn key_apart(s: &[u8], i: usize) -> bool
     ensures { result ≡ all (key_of_one_domain (certificate_at (decode s.now) i)) (take i (decode s.now).trust.certificates) }
 {
     let c = image::certificate(s, i);
-    let mut j: usize = 0;
-    while j < i {
-        if !terms::key_of_one_domain(c, image::certificate(s, j)) {
-            return false;
-        }
-        j += 1;
-    }
-    true
+    sweep::first(
+        i,
+        |j| !terms::key_of_one_domain(c, image::certificate(s, j)),
+    )
+    .is_none()
 }
 
 fn card_owns(s: &[u8], c: Certificate) -> bool
@@ -142,19 +108,11 @@ fn i4_with(s: &[u8], i: usize) -> bool
     card_owns(s, image::certificate(s, i)) & id_apart(s, i) & key_apart(s, i)
 }
 
-pub fn i4(s: &[u8]) -> usize
+pub fn i4(s: &[u8]) -> Option<usize>
     requires { Framed s.now }
-    ensures { result ≡ lowest (of_certificates i4 (decode s.now)) (decode s.now).trust.certificates }
+    ensures { result ≡ broken_at (of_certificates i4 (decode s.now)) (decode s.now).trust.certificates }
 {
-    let slots = image::certificate_slots(s);
-    let mut i: usize = 0;
-    while i < slots {
-        if !i4_with(s, i) {
-            return i;
-        }
-        i += 1;
-    }
-    slots
+    sweep::first(image::certificate_slots(s), |i| !i4_with(s, i))
 }
 
 // ---- I5
@@ -212,14 +170,7 @@ fn i5_below(s: &[u8], i: usize) -> bool
     ensures { result ≡ i5_pairs (decode s.now) i }
 {
     let c = image::certificate(s, i);
-    let mut j: usize = 0;
-    while j < i {
-        if !i5_pair(s, c, image::certificate(s, j)) {
-            return false;
-        }
-        j += 1;
-    }
-    true
+    sweep::first(i, |j| !i5_pair(s, c, image::certificate(s, j))).is_none()
 }
 
 fn owned_by_card(s: &[u8], c: Certificate) -> bool
@@ -254,36 +205,23 @@ fn i5_with(s: &[u8], i: usize) -> bool
     owned_by_card(s, c) & i5_below(s, i)
 }
 
-pub fn i5(s: &[u8]) -> usize
+pub fn i5(s: &[u8]) -> Option<usize>
     requires { Framed s.now }
-    ensures { result ≡ lowest (of_certificates i5 (decode s.now)) (decode s.now).trust.certificates }
+    ensures { result ≡ broken_at (of_certificates i5 (decode s.now)) (decode s.now).trust.certificates }
 {
-    let slots = image::certificate_slots(s);
-    let mut i: usize = 0;
-    while i < slots {
-        if !i5_with(s, i) {
-            return i;
-        }
-        i += 1;
-    }
-    slots
+    sweep::first(image::certificate_slots(s), |i| !i5_with(s, i))
 }
 
 // ---- I6 Table
 
-pub fn rows_fit(s: &[u8]) -> usize
+pub fn rows_fit(s: &[u8]) -> Option<usize>
     requires { Framed s.now }
-    ensures { result ≡ lowest (all row_fits) (decode s.now).table }
+    ensures { result ≡ broken_at (all row_fits) (decode s.now).table }
 {
-    let actions = image::action_count(s);
-    let mut i: usize = 0;
-    while i < actions {
-        if !terms::row_fits(image::row(s, i)) {
-            return i;
-        }
-        i += 1;
-    }
-    actions
+    sweep::first(
+        image::action_count(s),
+        |i| !terms::row_fits(image::row(s, i)),
+    )
 }
 
 // ---- I7 Executable
@@ -298,14 +236,7 @@ fn executable_apart(s: &[u8], i: usize) -> bool
     if id == 0 {
         return true;
     }
-    let mut j: usize = 0;
-    while j < i {
-        if image::executable_has_id(s, j, id) {
-            return false;
-        }
-        j += 1;
-    }
-    true
+    sweep::first(i, |j| image::executable_has_id(s, j, id)).is_none()
 }
 
 fn executable_with(s: &[u8], actions: usize, i: usize) -> bool
@@ -316,18 +247,13 @@ fn executable_with(s: &[u8], actions: usize, i: usize) -> bool
     terms::executable_slot_fits(actions, image::executable(s, i)) & executable_apart(s, i)
 }
 
-pub fn i7(s: &[u8]) -> usize
+pub fn i7(s: &[u8]) -> Option<usize>
     requires { Framed s.now }
-    ensures { result ≡ lowest (of_executables i7 (decode s.now)) (decode s.now).executables }
+    ensures { result ≡ broken_at (of_executables i7 (decode s.now)) (decode s.now).executables }
 {
     let actions = image::action_count(s);
-    let slots = image::executable_slots(s);
-    let mut i: usize = 0;
-    while i < slots {
-        if !executable_with(s, actions, i) {
-            return i;
-        }
-        i += 1;
-    }
-    slots
+    sweep::first(
+        image::executable_slots(s),
+        |i| !executable_with(s, actions, i),
+    )
 }

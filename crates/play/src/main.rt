@@ -16,12 +16,10 @@ fn all_events(s: &mut [u8], events: &[u8], n: usize, out: &mut [u8])
     requires event_size_in_bounds { (n * event_size ≤ length events.now) × (longest_line ≤ length out.old) }
 {
     let mut used = 0;
-    let mut i = 0;
-    while i < n {
+    for i in 0..n {
         let at = i * Event::SIZE;
         let a = events::step_accepted(s, &events[at..at + Event::SIZE]);
-        i += 1;
-        used = stream::add_line(out, used, i as u64, events[at], a);
+        used = stream::add_line(out, used, i as u64 + 1, events[at], a);
     }
     io::write_all(STDOUT, &out[..used]);
 }
@@ -30,17 +28,17 @@ fn all_events(s: &mut [u8], events: &[u8], n: usize, out: &mut [u8])
 fn lesson(s: &mut [u8], t: &[u8]) {
     let mut out = io::large_buffer();
     let mut events = [0u8; timeline::MOST_BYTES];
-    let told = timeline::unroll(s, t, &mut events);
-    if told.code == 1 {
-        let refusal = stream::put_refusal(&mut out, told.rule, told.offset);
-        io::write_all(STDOUT, &out[..refusal]);
-        return;
+    match timeline::unroll(s, t, &mut events) {
+        Ok(count) => all_events(s, &events, count, &mut out),
+        Err(told) => {
+            if told.code == 1 {
+                let refusal = stream::put_refusal(&mut out, told.rule, told.offset);
+                io::write_all(STDOUT, &out[..refusal]);
+                return;
+            }
+            io::write_all(STDOUT, b"timeline 19\n");
+        }
     }
-    if told.code != 0 {
-        io::write_all(STDOUT, b"timeline 19\n");
-        return;
-    }
-    all_events(s, &events, told.count, &mut out);
 }
 
 fn main() {

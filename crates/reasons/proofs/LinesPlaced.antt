@@ -2,7 +2,7 @@
 use Prim.Native.Nat.{ℕ, zero, suc, ◌+◌, ◌*◌, ◌≤◌}
 use mathlib.Core.{Bool.Bool, List.{List, [], ◌∷◌, ◌++◌, map, reverse, append_assoc, reverse-cons, map-append}, Logic.◌≢◌}
 use mathlib.Core.Path.{◌≡◌, refl, sym, ap, ap₂, subst, ◌∙◌}
-use native.{Mathlib.Nat.zero-add, Mathlib.Omega.arith}
+use native.{Mathlib.Nat.zero-add, Mathlib.Numerals.add-one, Mathlib.Omega.arith}
 use lib.{Dec.{eqb, eqb→eq}, ListN.{length, take, drop, length-append, length-map, length-reverse}, Seq.{length-take-le, drop_at}}
 use Rattle.octets.specs.Octets.{put}
 use Rattle.octets.proofs.ByteLaws.{put_none, length_put}
@@ -95,12 +95,12 @@ module _ (t : Trust) (d : ℕ) where
       ∙ ap (with_lines out) (ap (λ c. climbed_lines t d n c.verifying ++ (link_line c ∷ [])) e ∙ sym (climbs n k))
 
   -- the one chosen with m links left stands behind the lines of those above it
-  pub chain_next : (n m k : ℕ) (c : Certificate) (out : List ℕ) → suc n ≡ m → c ≡ lowest (serves (good m t) d k) 0 t.certificates
+  pub chain_next : (n m k : ℕ) (c : Certificate) (out : List ℕ) → suc n ≡ m → c ≡ lowest (serves (good (n + 1) t) d k) 0 t.certificates
       → m * line_size ≤ length out → {out' : List ℕ} → out' ≡ put out (n * line_size) (line_bytes (link_line c))
       → with_lines out' (climbed_lines t d n c.verifying) ≡ with_lines out (climbed_lines t d m k)
   chain_next n m k c out s e h w =
       ap (λ o. with_lines o (climbed_lines t d n c.verifying)) w
-      ∙ chain_more n k c out (subst (λ m. c ≡ lowest (serves (good m t) d k) 0 t.certificates) (sym s) e) (omega arith)
+      ∙ chain_more n k c out (subst (λ m. c ≡ lowest (serves (good m t) d k) 0 t.certificates) (add-one n) e) (omega arith)
       ∙ ap (λ m. with_lines out (climbed_lines t d m k)) s
 
   pub chain_none : (n k : ℕ) (out : List ℕ) → n ≤ 0 → out ≡ with_lines out (climbed_lines t d n k)

@@ -7,16 +7,17 @@ use lib.{Dec.eqb, ListN.{length, length-append, get_or}}
 use Rattle.octets.specs.Octets.{put}
 use Rattle.octets.proofs.ByteLaws.{put_none}
 use Rattle.records.specs.{Phone.{Trust, decode, no_executable}, declared.Executable.Executable}
-use Rattle.rules.specs.{declared.Chained.Chained, Words.any, Chains.{chain_domain, chain_of, most_links}, declared.Answer.Answer, declared.Fault.Fault}
-use Rattle.rules.specs.{ImageRules.accepted, Faults.fault, Step.{opened, refusal}, Codes.{is_executable, executable_named, executable_known}}
+use Rattle.rules.specs.{declared.Chained.Chained, Words.any, Chains.{chain_domain, chain_of, most_links}, declared.Answer.Answer}
+use Rattle.rules.specs.{ImageRules.accepted, Step.{opened, refusal, refused}, Codes.{is_executable, executable_named, executable_known}}
 use Rattle.rules.specs.AcceptedImage.{AcceptedImage}
-use Rattle.laws.proofs.{Tests.{eq→eqb, ne→neqb, not_intro}, Accepts.true_T, Shortest.links_small, Places.place_named, Where.{fault_refused, opened_broken}}
-use Rattle.lookup.specs.{declared.Found.Found, RecordFound.found}
+use Rattle.laws.proofs.{Tests.{eq→eqb, ne→neqb, not_intro}, Accepts.true_T, Shortest.links_small, Places.place_named}
+use Rattle.std.specs.Prelude.{Option, Some, None, Result, Ok, Err}
+use Rattle.sweep.specs.FirstPassing.{found}
 use Rattle.lookup.proofs.FoundSlot.{nowhere_none, at_some, at_first}
 use Rattle.explanations.specs.Why.{Line, has_key, chain_told, unsigned_line, unheld_line, untrusted_line, chained, unsigned, held, despite, explained}
 use Rattle.explanations.specs.Why.{explanation}
 use Rattle.explanations.proofs.Cases.{explained_chain, explained_unsigned, explained_unheld, explained_reasons}
-use Rattle.reasons.specs.{declared.Why.Why, Lines.{line_size, line_bytes, climbed_lines, holder_lines, with_lines, Told, why_code, lines_of, Whole}}
+use Rattle.reasons.specs.Lines.{line_size, line_bytes, climbed_lines, holder_lines, with_lines, Told, why_code, lines_of, why, Whole}
 use Rattle.reasons.proofs.{Rows.{takes, skips, ends, not_is}, LinesPlaced.{length_chain, line_more}}
 
 -- ---- a chain, and what may follow it
@@ -74,9 +75,9 @@ module _ (t : Trust) (x : Executable) where
 -- ---- the code
 
 module _ (l : List ℕ) (n : ℕ) where
-  broken : {f : Fault} → f ≡ fault l → f.rule ≢ 0 → 1 ≡ why_code l n
+  broken : accepted l ≡ false → 1 ≡ why_code l n
   unfolding why_code
-  broken e nz = takes _ _ _ (ap not (fault_refused l e nz))
+  broken h = takes _ _ _ (ap not h)
 
   module _ (h : accepted l ≡ true) where
     whole : not (accepted l) ≡ false
@@ -86,20 +87,20 @@ module _ (l : List ℕ) (n : ℕ) where
     unfolding why_code
     no_id z = skips _ _ _ whole (takes _ _ _ (ap (λ b. b || not (executable_known (decode l) n)) (eq-eqb n 0 z)))
 
-    module _ {f : Found} (q : f ≡ found (is_executable n) (decode l).executables) (nz : n ≢ 0) where
+    module _ {f : Option ℕ} (q : f ≡ found (is_executable n) (decode l).executables) (nz : n ≢ 0) where
       known_is : {b : Bool} → any (is_executable n) (decode l).executables ≡ b → (eqb n 0 || not (executable_known (decode l) n)) ≡ not b
       unfolding executable_known
       known_is e = ap (λ b. b || not (executable_known (decode l) n)) (ne_eqb n 0 nz) ∙ ap not e
 
-      unknown : f ≡ Found.Nowhere → 3 ≡ why_code l n
+      unknown : f ≡ None → 3 ≡ why_code l n
       unfolding why_code
       unknown h = skips _ _ _ whole (takes _ _ _ (known_is (nowhere_none (is_executable n) (decode l).executables q h)))
 
-      known : {i : ℕ} → f ≡ Found.At i → 0 ≡ why_code l n
+      known : {i : ℕ} → f ≡ Some i → 0 ≡ why_code l n
       unfolding why_code
       known h = skips _ _ _ whole (skips _ _ _ (known_is (at_some (is_executable n) (decode l).executables q h)) ends)
 
-      named : {i : ℕ} → f ≡ Found.At i → {x : Executable} → x ≡ get_or (decode l).executables i no_executable
+      named : {i : ℕ} → f ≡ Some i → {x : Executable} → x ≡ get_or (decode l).executables i no_executable
           → {out out' : List ℕ} {k : ℕ} → Told (explained (decode l).trust x) out k out' → Told (explanation (decode l) n) out k out'
       unfolding explanation executable_named
       named h e {out} {out'} {k} w =
@@ -113,36 +114,31 @@ module _ (l : List ℕ) (n : ℕ) (out : List ℕ) where
   abbrev lines_for : ℕ → List Line
   lines_for c = cond (eqb c 0) (explanation (decode l) n) []
 
-  abbrev answer_for : ℕ → Why
-  answer_for c = let a = refusal l c in record { code = a.code; rule = a.rule; offset = a.offset; lines = length (lines_for c) }
+  abbrev answer_for : ℕ → Result ℕ Answer
+  answer_for c = cond (eqb c 0) (Ok (length (lines_for c))) (Err (refusal l c))
 
-  answered : (c : ℕ) → c ≡ why_code l n → {r : Why} {out' : List ℕ} → r ≡ answer_for c → out' ≡ with_lines out (lines_for c) → Whole l n out r out'
-  unfolding lines_of
+  answered : (c : ℕ) → c ≡ why_code l n → {r : Result ℕ Answer} {out' : List ℕ} → r ≡ answer_for c → out' ≡ with_lines out (lines_for c) → Whole l n out r out'
+  unfolding lines_of why
   answered c e q w = record { answer = q ∙ ap answer_for e; told = w ∙ ap (λ c. with_lines out (lines_for c)) e }
 
-  pub told_broken : {f : Fault} → f ≡ fault l → f.rule ≢ 0 → {a : Answer} → a ≡ opened l
-      → {r : Why} → r ≡ record { code = a.code; rule = a.rule; offset = a.offset; lines = 0 } → Whole l n out r out
-  unfolding refusal
-  told_broken e nz t q =
-      let told = t ∙ opened_broken l e nz in
-      answered 1 (broken l n e nz) (q ∙ ap (λ a. record { code = a.code; rule = a.rule; offset = a.offset; lines = 0 }) told) (sym (put_none out 0))
+  pub told_broken : accepted l ≡ false → {a : Answer} → a ≡ opened l → Whole l n out (Err a) out
+  unfolding refusal opened
+  told_broken h t = answered 1 (broken l n h) (ap Err (t ∙ rw h)) (sym (put_none out 0))
 
   module _ (ok : AcceptedImage l) where
-    refused_unknown : {r : Why} → 3 ≡ why_code l n → r ≡ record { code = 3; rule = 0; offset = 0; lines = 0 } → Whole l n out r out
+    refused_unknown : {a : Answer} → 3 ≡ why_code l n → a ≡ refused 3 → Whole l n out (Err a) out
     unfolding refusal
-    refused_unknown e q = answered 3 e q (sym (put_none out 0))
+    refused_unknown e q = answered 3 e (ap Err q) (sym (put_none out 0))
 
-    pub told_no_id : n ≡ 0 → {r : Why} → r ≡ record { code = 3; rule = 0; offset = 0; lines = 0 } → Whole l n out r out
+    pub told_no_id : n ≡ 0 → {a : Answer} → a ≡ refused 3 → Whole l n out (Err a) out
     told_no_id z = refused_unknown (no_id l n ok.accepted z)
 
-    module _ {f : Found} (q : f ≡ found (is_executable n) (decode l).executables) (nz : n ≢ 0) where
-      pub told_unknown : f ≡ Found.Nowhere → {r : Why} → r ≡ record { code = 3; rule = 0; offset = 0; lines = 0 } → Whole l n out r out
+    module _ {f : Option ℕ} (q : f ≡ found (is_executable n) (decode l).executables) (nz : n ≢ 0) where
+      pub told_unknown : f ≡ None → {a : Answer} → a ≡ refused 3 → Whole l n out (Err a) out
       told_unknown h = refused_unknown (unknown l n ok.accepted q nz h)
 
-      pub told_known : {i : ℕ} → f ≡ Found.At i → {x : Executable} → x ≡ get_or (decode l).executables i no_executable
-          → {k : ℕ} {out' : List ℕ} → Told (explained (decode l).trust x) out k out'
-          → {r : Why} → r ≡ record { code = 0; rule = 0; offset = 0; lines = k } → Whole l n out r out'
-      unfolding refusal
-      told_known h e w a =
+      pub told_known : {i : ℕ} → f ≡ Some i → {x : Executable} → x ≡ get_or (decode l).executables i no_executable
+          → {k : ℕ} {out' : List ℕ} → Told (explained (decode l).trust x) out k out' → Whole l n out (Ok k) out'
+      told_known h e w =
           let t = named l n ok.accepted q nz h e w in
-          answered 0 (known l n ok.accepted q nz h) (a ∙ ap (λ k. record { code = 0; rule = 0; offset = 0; lines = k }) t.count) t.lines
+          answered 0 (known l n ok.accepted q nz h) (ap Ok t.count) t.lines

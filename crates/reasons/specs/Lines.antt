@@ -1,11 +1,10 @@
 -- An explanation in a buffer: three bytes a line. Definitions only.
-use Rattle.std.specs.Prelude.{ℕ, ◌/◌}
+use Rattle.std.specs.Prelude.{ℕ, ◌/◌, Result, Ok, Err}
 use mathlib.Core.{Bool.{cond, not, ◌||◌}, List.{List, [], ◌∷◌, map, reverse}, Path.◌≡◌}
 use lib.{Dec.eqb, ListN.{length, take}}
 use Rattle.octets.specs.Octets.{bytes, put}
 use Rattle.records.specs.Phone.{Trust, decode, joined}
-use Rattle.rules.specs.{Words.{◌⇒◌, first}, ImageRules.accepted, Codes.executable_known, Step.refusal}
-use Rattle.reasons.specs.declared.Why.{Why}
+use Rattle.rules.specs.{declared.Answer.Answer, Words.{◌⇒◌, first}, ImageRules.accepted, Codes.executable_known, Step.refusal}
 use Rattle.explanations.specs.Why.{Line, link_line, reason_line, holders, climb, explanation}
 
 abbrev pub line_size : ℕ
@@ -42,18 +41,16 @@ why_code l n = first ((not (accepted l) ⇒ 1) ∷ (eqb n 0 || not (executable_k
 unfoldable pub lines_of : List ℕ → ℕ → List Line
 lines_of l n = cond (eqb (why_code l n) 0) (explanation (decode l) n) []
 
--- the answer: for code 1 the rule and the byte as well, and how many lines there are
-abbrev pub why : List ℕ → ℕ → Why
-why l n =
-    let a = refusal l (why_code l n) in
-    record { code = a.code; rule = a.rule; offset = a.offset; lines = length (lines_of l n) }
+-- the answer: how many lines there are, or the code of a refusal, for code 1 with the rule and the byte
+unfoldable pub why : List ℕ → ℕ → Result ℕ Answer
+why l n = cond (eqb (why_code l n) 0) (Ok (length (lines_of l n))) (Err (refusal l (why_code l n)))
 
 -- the answer, and every line at the start of a buffer that has room for them
-pub record Whole (l : List ℕ) (n : ℕ) (out : List ℕ) (r : Why) (out' : List ℕ) : Type 0 where
+pub record Whole (l : List ℕ) (n : ℕ) (out : List ℕ) (r : Result ℕ Answer) (out' : List ℕ) : Type 0 where
   pub answer : r ≡ why l n
   pub told : out' ≡ with_lines out (lines_of l n)
 
 -- the answer, and at the start of the buffer as many of the lines as it has room for, every other byte kept
-pub record Explained (l : List ℕ) (n : ℕ) (out : List ℕ) (r : Why) (out' : List ℕ) : Type 0 where
+pub record Explained (l : List ℕ) (n : ℕ) (out : List ℕ) (r : Result ℕ Answer) (out' : List ℕ) : Type 0 where
   pub answer : r ≡ why l n
   pub told : out' ≡ with_lines out (take (length out / line_size) (lines_of l n))

@@ -12,7 +12,6 @@ ghost use Rattle.rules.specs.AcceptedImage.{Keyed, AcceptedImage};
 ghost use Rattle.explanations.specs.Why.{line, reason, despite, explained};
 ghost use Rattle.reasons.specs.Lines.{line_size, line_bytes, most_lines, climbed_lines, holder_lines, with_lines, Told, Whole, Explained};
 
-use lookup::Found;
 use records::{Certificate, Executable, image};
 use rules::{Answer, Chained};
 
@@ -22,7 +21,7 @@ pub const LINE_SIZE: usize = 3;
 // Bytes of the most lines that an explanation has, 64.
 pub const LONGEST: usize = 192;
 
-// ---- what a line says: its first byte
+// ---- what a line says: its first byte, a number of the C interface
 
 // A certificate of the chain.
 pub const LINK: u8 = 1;
@@ -56,7 +55,7 @@ pub const UNSERVED: u8 = 15;
 
 // ---- the reasons
 
-// The first true reason, and 0 where none is.
+// The first true reason, and 0 where none is: a byte of a line, which the only caller would have to make of an `Option`.
 fn reason(s: &[u8], c: Certificate) -> u8
     requires { Framed s.now }
     ensures { result ≡ reason (decode s.now).trust c }
@@ -101,12 +100,10 @@ fn tell_chain(s: &[u8], n: u8, domain: u8, key: u32, lines: &mut [u8])
     requires line_size_in_bounds { n * line_size ≤ length lines.old }
     ensures { lines.new ≡ with_lines lines.old (climbed_lines (decode s.now).trust domain n key) }
 {
-    let mut left = n;
     let mut wanted = key;
-    while 0 < left {
-        let c = slots::lowest_server(s, left, domain, wanted);
-        left -= 1;
-        tell(lines, left as usize, LINK, c.id);
+    for i in (0..n).rev() {
+        let c = slots::lowest_server(s, i + 1, domain, wanted);
+        tell(lines, i as usize, LINK, c.id);
         wanted = c.verifying;
     }
 }
@@ -119,30 +116,28 @@ fn tell_reasons(s: &[u8], key: u32, lines: &mut [u8]) -> usize
 {
     let slots = image::certificate_slots(s);
     let mut above: u16 = 0;
-    let mut i: usize = 0;
-    while i < slots {
+    for i in 0..slots {
         let c = slots::lowest_holder(s, key, above);
         if c.id == 0 {
             return i;
         }
         tell(lines, i, reason(s, c), c.id);
         above = c.id;
-        i += 1;
     }
-    i
+    slots
 }
 
 // ---- the whole
 
 // An executable that chains: its chain, and that it is untrusted all the same where it has domain 0.
-fn tell_chained(s: &[u8], x: Executable, links: u8, domain: u8, lines: &mut [u8]) -> usize
+fn tell_chained(s: &[u8], x: Executable, c: Chained, lines: &mut [u8]) -> usize
     requires framed { Framed s.now }
-    requires links_le_most_links { links ≤ most_links }
+    requires links_le_most_links { c.links ≤ most_links }
     requires line_size_in_bounds { most_lines * line_size ≤ length lines.old }
-    ensures { Told (climbed_lines (decode s.now).trust domain links x.signing ++ despite x) lines.old result lines.new }
+    ensures { Told (climbed_lines (decode s.now).trust c.domain c.links x.signing ++ despite x) lines.old result lines.new }
 {
-    tell_chain(s, links, domain, x.signing, lines);
-    let n = links as usize;
+    tell_chain(s, c.links, c.domain, x.signing, lines);
+    let n = c.links as usize;
     if x.domain != 0 {
         return n;
     }
@@ -166,27 +161,24 @@ fn chain_of(s: &[u8], key: u32) -> Chained
     ensures { result ≡ chain_of (decode s.now).trust key }
 {
     if key == 0 {
-        return chained(records::UNTRUSTED, 0);
+        return no_chain();
     }
-    let operator = chain::links_of(s, key, records::OPERATOR);
-    if operator != 0 {
-        return chained(records::OPERATOR, operator);
+    for domain in records::OPERATOR..=records::THIRD_PARTY {
+        let links = chain::links_of(s, key, domain);
+        if links != 0 {
+            return Chained { domain, links };
+        }
     }
-    let manufacturer = chain::links_of(s, key, records::MANUFACTURER);
-    if manufacturer != 0 {
-        return chained(records::MANUFACTURER, manufacturer);
-    }
-    let third = chain::links_of(s, key, records::THIRD_PARTY);
-    if third != 0 {
-        return chained(records::THIRD_PARTY, third);
-    }
-    chained(records::UNTRUSTED, 0)
+    no_chain()
 }
 
-fn chained(domain: u8, links: u8) -> Chained
-    ensures { result ≡ record { domain = domain; links = links } }
+fn no_chain() -> Chained
+    ensures { result ≡ record { domain = 0; links = 0 } }
 {
-    Chained { domain, links }
+    Chained {
+        domain: records::UNTRUSTED,
+        links: 0,
+    }
 }
 
 // The explanation of an executable, for an image that is accepted.
@@ -198,7 +190,7 @@ fn explain_on(s: &[u8], x: Executable, lines: &mut [u8]) -> usize
 {
     let c = chain_of(s, x.signing);
     if c.domain != 0 {
-        return tell_chained(s, x, c.links, c.domain, lines);
+        return tell_chained(s, x, c, lines);
     }
     if x.signing == 0 {
         return tell_one(UNSIGNED, x.id, lines);
@@ -209,111 +201,60 @@ fn explain_on(s: &[u8], x: Executable, lines: &mut [u8]) -> usize
     tell_reasons(s, x.signing, lines)
 }
 
-// What a question gets: code 0, 1 or 3, for 1 the broken rule and where, and the number of lines that there are.
-#[derive(Clone, Copy)]
-pub struct Why {
-    pub code: u8,
-    pub rule: u8,
-    pub offset: u16,
-    pub lines: usize,
-}
-
-// An answer without lines.
-fn refused(a: Answer) -> Why
-    ensures { result ≡ record { code = a.code; rule = a.rule; offset = a.offset; lines = 0 } }
-{
-    Why {
-        code: a.code,
-        rule: a.rule,
-        offset: a.offset,
-        lines: 0,
-    }
-}
-
 // No executable has the id.
-fn unknown() -> Why
-    ensures { result ≡ record { code = 3; rule = 0; offset = 0; lines = 0 } }
+fn unknown() -> Answer
+    ensures { result ≡ record { code = 3; domain = 0; links = 0; rule = 0; offset = 0 } }
 {
-    Why {
+    Answer {
         code: 3,
+        domain: 0,
+        links: 0,
         rule: 0,
         offset: 0,
-        lines: 0,
     }
 }
 
 // What is asked for, of an accepted image and where there is room for every line.
-fn explain_accepted(s: &[u8], id: u16, lines: &mut [u8]) -> Why
+fn explain_accepted(s: &[u8], id: u16, lines: &mut [u8]) -> Result<usize, Answer>
     requires accepted_image { AcceptedImage s.now }
     requires line_size_in_bounds { most_lines * line_size ≤ length lines.old }
     ensures { Whole s.now id lines.old result lines.new }
 {
     if id == 0 {
-        return unknown();
+        return Err(unknown());
     }
     match lookup::executable_slot(s, id) {
-        Found::Nowhere => unknown(),
-        Found::At(slot) => {
-            let n = explain_on(s, image::executable(s, slot), lines);
-            Why {
-                code: 0,
-                rule: 0,
-                offset: 0,
-                lines: n,
-            }
-        }
+        None => Err(unknown()),
+        Some(slot) => Ok(explain_on(s, image::executable(s, slot), lines)),
     }
 }
 
 // The same of any bytes.
-fn explain_whole(s: &[u8], id: u16, lines: &mut [u8]) -> Why
+fn explain_whole(s: &[u8], id: u16, lines: &mut [u8]) -> Result<usize, Answer>
     requires { most_lines * line_size ≤ length lines.old }
     ensures { Whole s.now id lines.old result lines.new }
 {
-    let fault = opening::open(s);
-    if fault.rule != 0 {
-        return refused(opening::told(s, fault));
+    let outcome = opening::open(s);
+    if outcome.is_err() {
+        return Err(opening::told(s, outcome));
     }
     explain_accepted(s, id, lines)
 }
 
-// ---- where there may be less room
-
-fn least(a: usize, b: usize) -> usize
-    ensures { result ≡ min a b }
-{
-    if a < b {
-        return a;
-    }
-    b
-}
-
-// The first n bytes.
-fn copy(from: &[u8], n: usize, to: &mut [u8])
-    requires n_in_bounds { n ≤ length from.now }
-    requires n_in_bounds_2 { n ≤ length to.old }
-    ensures { to.new ≡ put to.old 0 (take n from.now) }
-{
-    let mut i: usize = 0;
-    while i < n {
-        to[i] = from[i];
-        i += 1;
-    }
-}
-
 // What there is room for, out of a buffer that has room for all.
-fn explain_short(s: &[u8], id: u16, lines: &mut [u8]) -> Why
+fn explain_short(s: &[u8], id: u16, lines: &mut [u8]) -> Result<usize, Answer>
     ensures { Explained s.now id lines.old result lines.new }
 {
     let mut all = [0u8; LONGEST];
-    let told = explain_whole(s, id, &mut all);
-    let n = least(told.lines, lines.len() / LINE_SIZE);
-    copy(&all, n * LINE_SIZE, lines);
-    told
+    let told = explain_whole(s, id, &mut all)?;
+    let n = told.min(lines.len() / LINE_SIZE) * LINE_SIZE;
+    lines[..n].copy_from_slice(&all[..n]);
+    Ok(told)
 }
 
-// Why the executable with this id has its domain or has none, in lines of three bytes: as many as there is room for. Any bytes.
-pub fn explain(s: &[u8], id: u16, lines: &mut [u8]) -> Why
+// Why the executable with this id has its domain or has none, in lines of three bytes: how many there are, of which the buffer gets as many as
+// it has room for. An image that breaks a rule is told as opening it tells it, and an id that no executable has gets code 3. Any bytes.
+pub fn explain(s: &[u8], id: u16, lines: &mut [u8]) -> Result<usize, Answer>
     ensures { Explained s.now id lines.old result lines.new }
 {
     if LONGEST <= lines.len() {

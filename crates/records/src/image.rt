@@ -7,6 +7,7 @@ ghost use Rattle.records.specs.Phone.{with_clock, with_card, with_mode, put_cert
 ghost use Rattle.records.specs.Frame.{framed, header_fits, part_fields, setting_fields, total_byte, first_wrong, header_fault, Framed};
 
 use crate::{Card, Certificate, Executable, Header, Row, VERSION};
+use octets::Number;
 
 // The largest image.
 pub const LARGEST: usize = Header::SIZE
@@ -246,7 +247,7 @@ pub fn table_byte(s: &[u8], i: usize, domain: u8) -> u8
     requires domain_bound { domain < 4 }
     ensures { result ≡ row_byte (row_at (decode s.now) i) domain }
 {
-    octets::read8(
+    u8::read(
         s,
         Header::table_at(s) as usize + i * Row::SIZE + domain as usize,
     )
@@ -258,21 +259,21 @@ pub fn set_clock(s: &mut [u8], t: u32)
     requires { Framed s.old }
     ensures { s.new ≡ encode (with_clock t (decode s.old)) }
 {
-    octets::write32(s, Header::CLOCK, t);
+    t.write(s, Header::CLOCK);
 }
 
 pub fn set_card(s: &mut [u8], n: u16)
     requires { Framed s.old }
     ensures { s.new ≡ encode (with_card n (decode s.old)) }
 {
-    octets::write16(s, Header::CARD, n);
+    n.write(s, Header::CARD);
 }
 
 pub fn set_mode(s: &mut [u8], m: u16)
     requires { Framed s.old }
     ensures { s.new ≡ encode (with_mode m (decode s.old)) }
 {
-    octets::write16(s, Header::MODE, m);
+    m.write(s, Header::MODE);
 }
 
 pub fn set_mark(s: &mut [u8], i: usize, m: u8)
@@ -280,11 +281,7 @@ pub fn set_mark(s: &mut [u8], i: usize, m: u8)
     requires i_in_bounds { i < length (decode s.old).trust.certificates }
     ensures { s.new ≡ encode (put_certificate i (marked m (certificate_at (decode s.old) i)) (decode s.old)) }
 {
-    octets::write8(
-        s,
-        Header::SIZE + i * Certificate::SIZE + Certificate::MARK,
-        m,
-    );
+    m.write(s, Header::SIZE + i * Certificate::SIZE + Certificate::MARK);
 }
 
 pub fn set_enabled(s: &mut [u8], i: usize, m: u8)
@@ -292,10 +289,9 @@ pub fn set_enabled(s: &mut [u8], i: usize, m: u8)
     requires i_in_bounds { i < length (decode s.old).trust.certificates }
     ensures { s.new ≡ encode (put_certificate i (enabling m (certificate_at (decode s.old) i)) (decode s.old)) }
 {
-    octets::write8(
+    m.write(
         s,
         Header::SIZE + i * Certificate::SIZE + Certificate::ENABLED,
-        m,
     );
 }
 
@@ -321,7 +317,7 @@ pub fn set_domain(s: &mut [u8], i: usize, d: u8)
     ensures { s.new ≡ encode (put_executable i (in_domain d (executable_at (decode s.old) i)) (decode s.old)) }
 {
     let at = Header::executables_at(s) as usize + i * Executable::SIZE + Executable::DOMAIN;
-    octets::write8(s, at, d);
+    d.write(s, at);
 }
 
 pub fn set_permissions(s: &mut [u8], i: usize, w: u32)
@@ -330,7 +326,7 @@ pub fn set_permissions(s: &mut [u8], i: usize, w: u32)
     ensures { s.new ≡ encode (put_executable i (permitted w (executable_at (decode s.old) i)) (decode s.old)) }
 {
     let at = Header::executables_at(s) as usize + i * Executable::SIZE + Executable::PERMISSIONS;
-    octets::write32(s, at, w);
+    w.write(s, at);
 }
 
 pub fn write_executable(s: &mut [u8], i: usize, x: Executable)

@@ -1,5 +1,5 @@
-// The records of an image and of an event: sizes, offsets and what a field may say as constants of each record, and readers of a whole
-// record and of one field.
+// The records of an image and of an event: sizes, offsets and what a field may say as constants of each record, and a reader of each;
+// of the header a reader of each field.
 #![tactic(auto)]
 
 pub mod image;
@@ -12,9 +12,13 @@ ghost use Rattle.records.specs.Layout.{card_read, executable_read, executable_by
 ghost use Rattle.records.specs.Phone.{version, certificate_slots, card_count, executable_slots, action_count, standing_mode, card_present};
 ghost use Rattle.records.specs.Phone.{header_zero, clock_time, certificates_at, cards_at, executables_at, table_at, total_length};
 
+use octets::Number;
+
 // The version of an image.
 pub const VERSION: u16 = 1;
 
+// Domains, kinds, marks, actors and modes are numbers here and below, and no enums: a field holds any byte of an image or an event, which
+// `decode` says and `decode_encode` gives back.
 // The domains, of certificates and of executables.
 pub const UNTRUSTED: u8 = 0;
 
@@ -71,107 +75,108 @@ impl Header {
 
     pub const ENABLE_LISTED: u16 = Event::ENABLE_LISTED as u16;
 
+    // The readers name what the bytes say: the contracts of `image` speak of these names, and none of a whole header.
     fn version(s: &[u8]) -> u16
         requires { header_size ≤ length s.now }
         ensures { result ≡ version s.now }
     {
-        octets::read16(s, Header::VERSION)
+        u16::read(s, Header::VERSION)
     }
 
     fn certificate_slots(s: &[u8]) -> u16
         requires { header_size ≤ length s.now }
         ensures { result ≡ certificate_slots s.now }
     {
-        octets::read16(s, Header::CERTIFICATE_SLOTS)
+        u16::read(s, Header::CERTIFICATE_SLOTS)
     }
 
     fn card_count(s: &[u8]) -> u16
         requires { header_size ≤ length s.now }
         ensures { result ≡ card_count s.now }
     {
-        octets::read16(s, Header::CARD_COUNT)
+        u16::read(s, Header::CARD_COUNT)
     }
 
     fn executable_slots(s: &[u8]) -> u16
         requires { header_size ≤ length s.now }
         ensures { result ≡ executable_slots s.now }
     {
-        octets::read16(s, Header::EXECUTABLE_SLOTS)
+        u16::read(s, Header::EXECUTABLE_SLOTS)
     }
 
     fn action_count(s: &[u8]) -> u16
         requires { header_size ≤ length s.now }
         ensures { result ≡ action_count s.now }
     {
-        octets::read16(s, Header::ACTION_COUNT)
+        u16::read(s, Header::ACTION_COUNT)
     }
 
     fn mode(s: &[u8]) -> u16
         requires { header_size ≤ length s.now }
         ensures { result ≡ standing_mode s.now }
     {
-        octets::read16(s, Header::MODE)
+        u16::read(s, Header::MODE)
     }
 
     fn card(s: &[u8]) -> u16
         requires { header_size ≤ length s.now }
         ensures { result ≡ card_present s.now }
     {
-        octets::read16(s, Header::CARD)
+        u16::read(s, Header::CARD)
     }
 
     fn blank(s: &[u8]) -> u16
         requires { header_size ≤ length s.now }
         ensures { result ≡ header_zero s.now }
     {
-        octets::read16(s, Header::BLANK)
+        u16::read(s, Header::BLANK)
     }
 
     fn clock(s: &[u8]) -> u32
         requires { header_size ≤ length s.now }
         ensures { result ≡ clock_time s.now }
     {
-        octets::read32(s, Header::CLOCK)
+        u32::read(s, Header::CLOCK)
     }
 
     pub fn certificates_at(s: &[u8]) -> u32
         requires { header_size ≤ length s.now }
         ensures { result ≡ certificates_at s.now }
     {
-        octets::read32(s, Header::CERTIFICATES_AT)
+        u32::read(s, Header::CERTIFICATES_AT)
     }
 
     pub fn cards_at(s: &[u8]) -> u32
         requires { header_size ≤ length s.now }
         ensures { result ≡ cards_at s.now }
     {
-        octets::read32(s, Header::CARDS_AT)
+        u32::read(s, Header::CARDS_AT)
     }
 
     pub fn executables_at(s: &[u8]) -> u32
         requires { header_size ≤ length s.now }
         ensures { result ≡ executables_at s.now }
     {
-        octets::read32(s, Header::EXECUTABLES_AT)
+        u32::read(s, Header::EXECUTABLES_AT)
     }
 
     pub fn table_at(s: &[u8]) -> u32
         requires { header_size ≤ length s.now }
         ensures { result ≡ table_at s.now }
     {
-        octets::read32(s, Header::TABLE_AT)
+        u32::read(s, Header::TABLE_AT)
     }
 
     pub fn total(s: &[u8]) -> u32
         requires { header_size ≤ length s.now }
         ensures { result ≡ total_length s.now }
     {
-        octets::read32(s, Header::TOTAL)
+        u32::read(s, Header::TOTAL)
     }
 }
 
 // A certificate, or a free slot where all is 0.
-#[derive(Clone, Copy)]
+#[derive(Clone, Copy, PartialEq, Eq)]
 pub struct Certificate {
     pub id: u16,
     pub place: u16,
@@ -210,6 +215,20 @@ impl Certificate {
 
     pub const EXPIRY: usize = 20;
 
+    // A free slot.
+    pub const FREE: Certificate = Certificate {
+        id: 0,
+        place: 0,
+        kind: 0,
+        domain: 0,
+        mark: 0,
+        enabled: 0,
+        key: 0,
+        verifying: 0,
+        owner: 0,
+        expiry: 0,
+    };
+
     // Kinds.
     pub const ROOT: u8 = 0;
 
@@ -227,109 +246,39 @@ impl Certificate {
         ensures { result ≡ certificate_read s.now at }
     {
         Certificate {
-            id: Certificate::id(s, at),
-            place: Certificate::place(s, at),
-            kind: Certificate::kind(s, at),
-            domain: Certificate::domain(s, at),
-            mark: Certificate::mark(s, at),
-            enabled: Certificate::enabled(s, at),
-            key: Certificate::key(s, at),
-            verifying: Certificate::verifying(s, at),
-            owner: Certificate::owner(s, at),
-            expiry: Certificate::expiry(s, at),
+            id: u16::read(s, at + Certificate::ID),
+            place: u16::read(s, at + Certificate::PLACE),
+            kind: u8::read(s, at + Certificate::KIND),
+            domain: u8::read(s, at + Certificate::DOMAIN),
+            mark: u8::read(s, at + Certificate::MARK),
+            enabled: u8::read(s, at + Certificate::ENABLED),
+            key: u32::read(s, at + Certificate::KEY),
+            verifying: u32::read(s, at + Certificate::VERIFYING),
+            owner: u32::read(s, at + Certificate::OWNER),
+            expiry: u32::read(s, at + Certificate::EXPIRY),
         }
-    }
-
-    fn id(s: &[u8], at: usize) -> u16
-        requires { at + certificate_size ≤ length s.now }
-        ensures { result ≡ (certificate_read s.now at).id }
-    {
-        octets::read16(s, at + Certificate::ID)
-    }
-
-    fn place(s: &[u8], at: usize) -> u16
-        requires { at + certificate_size ≤ length s.now }
-        ensures { result ≡ (certificate_read s.now at).place }
-    {
-        octets::read16(s, at + Certificate::PLACE)
-    }
-
-    fn kind(s: &[u8], at: usize) -> u8
-        requires { at + certificate_size ≤ length s.now }
-        ensures { result ≡ (certificate_read s.now at).kind }
-    {
-        octets::read8(s, at + Certificate::KIND)
-    }
-
-    fn domain(s: &[u8], at: usize) -> u8
-        requires { at + certificate_size ≤ length s.now }
-        ensures { result ≡ (certificate_read s.now at).domain }
-    {
-        octets::read8(s, at + Certificate::DOMAIN)
-    }
-
-    fn mark(s: &[u8], at: usize) -> u8
-        requires { at + certificate_size ≤ length s.now }
-        ensures { result ≡ (certificate_read s.now at).mark }
-    {
-        octets::read8(s, at + Certificate::MARK)
-    }
-
-    fn enabled(s: &[u8], at: usize) -> u8
-        requires { at + certificate_size ≤ length s.now }
-        ensures { result ≡ (certificate_read s.now at).enabled }
-    {
-        octets::read8(s, at + Certificate::ENABLED)
-    }
-
-    fn key(s: &[u8], at: usize) -> u32
-        requires { at + certificate_size ≤ length s.now }
-        ensures { result ≡ (certificate_read s.now at).key }
-    {
-        octets::read32(s, at + Certificate::KEY)
-    }
-
-    fn verifying(s: &[u8], at: usize) -> u32
-        requires { at + certificate_size ≤ length s.now }
-        ensures { result ≡ (certificate_read s.now at).verifying }
-    {
-        octets::read32(s, at + Certificate::VERIFYING)
-    }
-
-    fn owner(s: &[u8], at: usize) -> u32
-        requires { at + certificate_size ≤ length s.now }
-        ensures { result ≡ (certificate_read s.now at).owner }
-    {
-        octets::read32(s, at + Certificate::OWNER)
-    }
-
-    fn expiry(s: &[u8], at: usize) -> u32
-        requires { at + certificate_size ≤ length s.now }
-        ensures { result ≡ (certificate_read s.now at).expiry }
-    {
-        octets::read32(s, at + Certificate::EXPIRY)
     }
 
     fn write_small(s: &mut [u8], at: usize, c: Certificate)
         requires { at + certificate_size ≤ length s.old }
         ensures { s.new ≡ put s.old at (certificate_small c) }
     {
-        octets::write16(s, at + Certificate::ID, c.id);
-        octets::write16(s, at + Certificate::PLACE, c.place);
-        octets::write8(s, at + Certificate::KIND, c.kind);
-        octets::write8(s, at + Certificate::DOMAIN, c.domain);
-        octets::write8(s, at + Certificate::MARK, c.mark);
-        octets::write8(s, at + Certificate::ENABLED, c.enabled);
+        c.id.write(s, at + Certificate::ID);
+        c.place.write(s, at + Certificate::PLACE);
+        c.kind.write(s, at + Certificate::KIND);
+        c.domain.write(s, at + Certificate::DOMAIN);
+        c.mark.write(s, at + Certificate::MARK);
+        c.enabled.write(s, at + Certificate::ENABLED);
     }
 
     fn write_words(s: &mut [u8], at: usize, c: Certificate)
         requires { at + certificate_size ≤ length s.old }
         ensures { s.new ≡ put s.old (at + 8) (certificate_words c) }
     {
-        octets::write32(s, at + Certificate::KEY, c.key);
-        octets::write32(s, at + Certificate::VERIFYING, c.verifying);
-        octets::write32(s, at + Certificate::OWNER, c.owner);
-        octets::write32(s, at + Certificate::EXPIRY, c.expiry);
+        c.key.write(s, at + Certificate::KEY);
+        c.verifying.write(s, at + Certificate::VERIFYING);
+        c.owner.write(s, at + Certificate::OWNER);
+        c.expiry.write(s, at + Certificate::EXPIRY);
     }
 
     fn write(s: &mut [u8], at: usize, c: Certificate)
@@ -365,36 +314,15 @@ impl Card {
         ensures { result ≡ card_read s.now at }
     {
         Card {
-            number: Card::number(s, at),
-            blank: Card::blank(s, at),
-            operator: Card::operator(s, at),
+            number: u16::read(s, at + Card::NUMBER),
+            blank: u16::read(s, at + Card::BLANK),
+            operator: u32::read(s, at + Card::OPERATOR),
         }
-    }
-
-    fn number(s: &[u8], at: usize) -> u16
-        requires { at + card_size ≤ length s.now }
-        ensures { result ≡ (card_read s.now at).number }
-    {
-        octets::read16(s, at + Card::NUMBER)
-    }
-
-    fn blank(s: &[u8], at: usize) -> u16
-        requires { at + card_size ≤ length s.now }
-        ensures { result ≡ (card_read s.now at).blank }
-    {
-        octets::read16(s, at + Card::BLANK)
-    }
-
-    fn operator(s: &[u8], at: usize) -> u32
-        requires { at + card_size ≤ length s.now }
-        ensures { result ≡ (card_read s.now at).operator }
-    {
-        octets::read32(s, at + Card::OPERATOR)
     }
 }
 
 // An executable, or a free slot where all is 0; `blank` is the zero between its fields.
-#[derive(Clone, Copy)]
+#[derive(Clone, Copy, PartialEq, Eq)]
 pub struct Executable {
     pub id: u16,
     pub domain: u8,
@@ -418,63 +346,37 @@ impl Executable {
 
     pub const PERMISSIONS: usize = 8;
 
+    // A free slot.
+    pub const FREE: Executable = Executable {
+        id: 0,
+        domain: 0,
+        blank: 0,
+        signing: 0,
+        permissions: 0,
+    };
+
     fn read(s: &[u8], at: usize) -> Executable
         requires { at + executable_size ≤ length s.now }
         ensures { result ≡ executable_read s.now at }
     {
         Executable {
-            id: Executable::id(s, at),
-            domain: Executable::domain(s, at),
-            blank: Executable::blank(s, at),
-            signing: Executable::signing(s, at),
-            permissions: Executable::permissions(s, at),
+            id: u16::read(s, at + Executable::ID),
+            domain: u8::read(s, at + Executable::DOMAIN),
+            blank: u8::read(s, at + Executable::BLANK),
+            signing: u32::read(s, at + Executable::SIGNING),
+            permissions: u32::read(s, at + Executable::PERMISSIONS),
         }
-    }
-
-    fn id(s: &[u8], at: usize) -> u16
-        requires { at + executable_size ≤ length s.now }
-        ensures { result ≡ (executable_read s.now at).id }
-    {
-        octets::read16(s, at + Executable::ID)
-    }
-
-    fn domain(s: &[u8], at: usize) -> u8
-        requires { at + executable_size ≤ length s.now }
-        ensures { result ≡ (executable_read s.now at).domain }
-    {
-        octets::read8(s, at + Executable::DOMAIN)
-    }
-
-    fn blank(s: &[u8], at: usize) -> u8
-        requires { at + executable_size ≤ length s.now }
-        ensures { result ≡ (executable_read s.now at).blank }
-    {
-        octets::read8(s, at + Executable::BLANK)
-    }
-
-    fn signing(s: &[u8], at: usize) -> u32
-        requires { at + executable_size ≤ length s.now }
-        ensures { result ≡ (executable_read s.now at).signing }
-    {
-        octets::read32(s, at + Executable::SIGNING)
-    }
-
-    fn permissions(s: &[u8], at: usize) -> u32
-        requires { at + executable_size ≤ length s.now }
-        ensures { result ≡ (executable_read s.now at).permissions }
-    {
-        octets::read32(s, at + Executable::PERMISSIONS)
     }
 
     fn write(s: &mut [u8], at: usize, x: Executable)
         requires { at + executable_size ≤ length s.old }
         ensures { s.new ≡ put s.old at (executable_bytes x) }
     {
-        octets::write16(s, at + Executable::ID, x.id);
-        octets::write8(s, at + Executable::DOMAIN, x.domain);
-        octets::write8(s, at + Executable::BLANK, x.blank);
-        octets::write32(s, at + Executable::SIGNING, x.signing);
-        octets::write32(s, at + Executable::PERMISSIONS, x.permissions);
+        x.id.write(s, at + Executable::ID);
+        x.domain.write(s, at + Executable::DOMAIN);
+        x.blank.write(s, at + Executable::BLANK);
+        x.signing.write(s, at + Executable::SIGNING);
+        x.permissions.write(s, at + Executable::PERMISSIONS);
     }
 }
 
@@ -512,39 +414,11 @@ impl Row {
         ensures { result ≡ row_read s.now at }
     {
         Row {
-            untrusted: Row::untrusted(s, at),
-            operator: Row::operator(s, at),
-            manufacturer: Row::manufacturer(s, at),
-            third: Row::third(s, at),
+            untrusted: u8::read(s, at + Row::UNTRUSTED),
+            operator: u8::read(s, at + Row::OPERATOR),
+            manufacturer: u8::read(s, at + Row::MANUFACTURER),
+            third: u8::read(s, at + Row::THIRD),
         }
-    }
-
-    fn untrusted(s: &[u8], at: usize) -> u8
-        requires { at + row_size ≤ length s.now }
-        ensures { result ≡ (row_read s.now at).untrusted }
-    {
-        octets::read8(s, at + Row::UNTRUSTED)
-    }
-
-    fn operator(s: &[u8], at: usize) -> u8
-        requires { at + row_size ≤ length s.now }
-        ensures { result ≡ (row_read s.now at).operator }
-    {
-        octets::read8(s, at + Row::OPERATOR)
-    }
-
-    fn manufacturer(s: &[u8], at: usize) -> u8
-        requires { at + row_size ≤ length s.now }
-        ensures { result ≡ (row_read s.now at).manufacturer }
-    {
-        octets::read8(s, at + Row::MANUFACTURER)
-    }
-
-    fn third(s: &[u8], at: usize) -> u8
-        requires { at + row_size ≤ length s.now }
-        ensures { result ≡ (row_read s.now at).third }
-    {
-        octets::read8(s, at + Row::THIRD)
     }
 }
 
@@ -646,14 +520,14 @@ impl Event {
         Event {
             kind: Event::kind(s, at),
             actor: Event::actor(s, at),
-            id: Event::id(s, at),
-            second: Event::second(s, at),
-            third: Event::third(s, at),
-            fourth: Event::fourth(s, at),
-            key: Event::key(s, at),
-            verifying: Event::verifying(s, at),
-            owner: Event::owner(s, at),
-            expiry: Event::expiry(s, at),
+            id: u16::read(s, at + Event::ID),
+            second: u16::read(s, at + Event::SECOND),
+            third: u8::read(s, at + Event::THIRD),
+            fourth: u8::read(s, at + Event::FOURTH),
+            key: u32::read(s, at + Event::KEY),
+            verifying: u32::read(s, at + Event::VERIFYING),
+            owner: u32::read(s, at + Event::OWNER),
+            expiry: u32::read(s, at + Event::EXPIRY),
         }
     }
 
@@ -661,69 +535,13 @@ impl Event {
         requires { at + event_size ≤ length s.now }
         ensures { result ≡ (event_read s.now at).kind }
     {
-        octets::read8(s, at + Event::KIND)
+        u8::read(s, at + Event::KIND)
     }
 
     pub fn actor(s: &[u8], at: usize) -> u8
         requires { at + event_size ≤ length s.now }
         ensures { result ≡ (event_read s.now at).actor }
     {
-        octets::read8(s, at + Event::ACTOR)
-    }
-
-    fn id(s: &[u8], at: usize) -> u16
-        requires { at + event_size ≤ length s.now }
-        ensures { result ≡ (event_read s.now at).id }
-    {
-        octets::read16(s, at + Event::ID)
-    }
-
-    fn second(s: &[u8], at: usize) -> u16
-        requires { at + event_size ≤ length s.now }
-        ensures { result ≡ (event_read s.now at).second }
-    {
-        octets::read16(s, at + Event::SECOND)
-    }
-
-    fn third(s: &[u8], at: usize) -> u8
-        requires { at + event_size ≤ length s.now }
-        ensures { result ≡ (event_read s.now at).third }
-    {
-        octets::read8(s, at + Event::THIRD)
-    }
-
-    fn fourth(s: &[u8], at: usize) -> u8
-        requires { at + event_size ≤ length s.now }
-        ensures { result ≡ (event_read s.now at).fourth }
-    {
-        octets::read8(s, at + Event::FOURTH)
-    }
-
-    fn key(s: &[u8], at: usize) -> u32
-        requires { at + event_size ≤ length s.now }
-        ensures { result ≡ (event_read s.now at).key }
-    {
-        octets::read32(s, at + Event::KEY)
-    }
-
-    fn verifying(s: &[u8], at: usize) -> u32
-        requires { at + event_size ≤ length s.now }
-        ensures { result ≡ (event_read s.now at).verifying }
-    {
-        octets::read32(s, at + Event::VERIFYING)
-    }
-
-    fn owner(s: &[u8], at: usize) -> u32
-        requires { at + event_size ≤ length s.now }
-        ensures { result ≡ (event_read s.now at).owner }
-    {
-        octets::read32(s, at + Event::OWNER)
-    }
-
-    fn expiry(s: &[u8], at: usize) -> u32
-        requires { at + event_size ≤ length s.now }
-        ensures { result ≡ (event_read s.now at).expiry }
-    {
-        octets::read32(s, at + Event::EXPIRY)
+        u8::read(s, at + Event::ACTOR)
     }
 }

@@ -3,7 +3,7 @@ use Rattle.std.specs.Prelude.{get_or}
 use mathlib.Core.{List.{List, ◌∷◌, map}, Path.{◌≡◌, refl, ap, ◌∙◌}}
 use Rattle.octets.specs.Octets.{put}
 use Rattle.rules.specs.{declared.Answer.Answer, Computing.computing}
-use Rattle.rules.specs.WorkedRun.{lines, run_as_printed, Boundary, others, boundaries, untold, heard}
+use Rattle.rules.specs.WorkedRun.{lines, run_as_printed, others, boundaries, untold, heard}
 
 -- the answers of a run that are boundaries, and others behind them: so the run is worked out once
 abbrev seven : List Answer → List Answer → List Answer

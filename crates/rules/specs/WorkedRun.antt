@@ -1,7 +1,7 @@
 -- 01, "One run of bench, whole", computed from its bytes, the ten boundaries that 01 marks P, and the two that 02, item 5, adds; that they hold is in
 -- proofs/Boundaries.antt. Assumes nothing.
 use Rattle.std.specs.Prelude.{ℕ}
-use mathlib.Core.{Bool.true, List.{List, [], ◌∷◌, ◌++◌, map}, Path.{◌≡◌, refl}}
+use mathlib.Core.{Bool.true, List.{List, [], ◌∷◌, ◌++◌}, Path.{◌≡◌, refl}}
 use Rattle.std.specs.Prelude.{length, get_or, take}
 use Rattle.octets.specs.Octets.{bytes, put}
 use Rattle.rules.specs.{declared.Answer.Answer, ImageRules.accepted, Codes.certificate_named, After.behind, Step.answers, Computing.computing}

@@ -6,7 +6,7 @@ use lib.ListN.{length, length-append}
 use Rattle.octets.specs.Octets.{put}
 use Rattle.octets.proofs.ByteLaws.{put_none, length_put}
 use Rattle.records.proofs.Puts.{put_next}
-use Rattle.stream.specs.{Decimal.{most_digits, decimal, column}, PrintedLines.{line, longest_line}, Refusal.{image_one, image_refused, longest_refusal}}
+use Rattle.stream.specs.{Decimal.{decimal, column}, PrintedLines.{line, longest_line}, Refusal.{image_one, image_refused, longest_refusal}}
 use Rattle.rules.specs.declared.Answer.{Answer}
 use Rattle.stream.proofs.Texts.{decimal_small}
 
@@ -30,13 +30,6 @@ nothing l i = (sym (put_none l i), sym (add-zero i))
 -- a text at the start of a buffer is within it
 pub start_within : (l text : List ℕ) {s : List ℕ} {r : ℕ} → length text ≤ length l → (s ≡ put l 0 text) × (r ≡ length text) → r ≤ length s
 start_within l text h e = let n = ap length e.0 ∙ length_put l 0 text (omega arith) in omega (arith, e.1)
-
--- where a number, and a column, end at the latest
-pub number_ends : (n at : ℕ) {r : ℕ} → r ≡ at + length (decimal n) → r ≤ at + most_digits
-number_ends n at e = let h = decimal_small n in omega arith
-
-pub column_ends : (n at : ℕ) {r : ℕ} → r ≡ at + length (column n) → r ≤ at + 1 + most_digits
-column_ends n at e = let h = decimal_small n in omega arith
 
 -- ---- the line of a refused image
 

@@ -12,7 +12,8 @@ use records::{Header, image};
 use rules::Answer;
 use std::env::{Env, FillError};
 
-// The descriptors that every program has.
+// The descriptors that every program has. The programs write whole buffers of bytes on them, where `print!` would format text
+// and end a program otherwise when a write fails.
 pub const STDIN: i32 = 0;
 
 pub const STDOUT: i32 = 1;
@@ -60,11 +61,7 @@ pub fn put_text(out: &mut [u8], at: usize, text: &[u8])
     requires { at + length text.now ≤ length out.old }
     ensures { out.new ≡ put out.old at text.now }
 {
-    let mut i = 0;
-    while i < text.len() {
-        out[at + i] = text[i];
-        i += 1;
-    }
+    out[at..at + text.len()].copy_from_slice(text);
 }
 
 // A number in decimal digits put at a place of a buffer that has room for the longest there: the place behind it.
@@ -97,11 +94,13 @@ pub fn put_heading(out: &mut [u8]) -> usize
     requires { length heading ≤ length out.old }
     ensures { (out.new ≡ put out.old 0 heading) × (result ≡ length heading) }
 {
-    put_text(out, 0, b"event kind code domain links\n");
-    29
+    let text = b"event kind code domain links\n";
+    put_text(out, 0, text);
+    text.len()
 }
 
 // The line of an event's answer put at a place: the place behind it.
+#[tactic(auto, using(crate::proofs::Texts::decimal_small))]
 pub fn put_line(out: &mut [u8], at: usize, n: u64, kind: u8, a: Answer) -> usize
     requires { at + longest_line ≤ length out.old }
     ensures { (out.new ≡ put out.old at (line n kind a)) × (result ≡ at + length (line n kind a)) }
@@ -138,6 +137,7 @@ pub fn add_line(out: &mut [u8], used: usize, n: u64, kind: u8, a: Answer) -> usi
 }
 
 // The line of an image that is refused, put at the start of a buffer: how long it is.
+#[tactic(auto, using(crate::proofs::Texts::decimal_small))]
 pub fn put_refusal(out: &mut [u8], rule: u8, offset: u16) -> usize
     requires { longest_refusal ≤ length out.old }
     ensures { (out.new ≡ put out.old 0 (image_refused rule offset)) × (result ≡ length (image_refused rule offset)) }

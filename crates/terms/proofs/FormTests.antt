@@ -3,6 +3,7 @@ use Prim.Native.Nat.{ℕ, ◌+◌, ◌≤◌, ◌<◌}
 use mathlib.Core.{Bool.{Bool, true, false, cond, not, ◌&&◌, ◌||◌, true≢false}, List.{[], ◌∷◌}, Path.{◌≡◌, refl, subst, sym, ap, ap₂, ◌∙◌}}
 use native.Mathlib.Omega.{arith}
 use borrow.Author.Tests.{le-leb, lt-leb, not-false}
+use Rattle.std.specs.Int.{from_bool}
 use lib.{Dec.{T, eqb, eqb→eq, leb, ltb, ltb→lt, leb→le, nleb→lt}, ListN.length}
 use Rattle.records.specs.{Phone.Phone, declared.Certificate.Certificate, declared.Event.Event}
 use Rattle.rules.specs.{Words.{between, all, all_zero}, ImageRules.certificate_fits}
@@ -121,8 +122,13 @@ module _ (p : Phone) (e : Event) where
 
 -- ---- an install event
 
+-- a test as a number
+as_bit : (b : Bool) → from_bool b ≡ cond b 1 0
+as_bit true = refl
+as_bit false = refl
+
 -- a bit that is 1 unless a test holds
-unless : (b : Bool) → ◌≡◌ {A = ℕ} (cond (not b) 1 0) (cond b 0 1)
+unless : (b : Bool) → from_bool (not b) ≡ cond b 0 1
 unless true = refl
 unless false = refl
 
@@ -144,9 +150,9 @@ stored e m n =
 
 -- the certificate that an install event stores, from its two computed fields
 pub new_is : (mode : ℕ) (e : Event) (m n : ℕ)
-    → m ≡ cond (eqb e.third 1 || (eqb e.third 0 && eqb e.fourth 3)) 1 0
-    → n ≡ cond (not (eqb e.third 0 && eqb e.fourth 3 && not (eqb mode 1))) 1 0
+    → m ≡ from_bool (eqb e.third 1 || (eqb e.third 0 && eqb e.fourth 3))
+    → n ≡ from_bool (not (eqb e.third 0 && eqb e.fourth 3 && not (eqb mode 1)))
     → stored e m n ≡ new_certificate mode e
 unfolding new_certificate
 new_is mode e m n q w =
-    ap₂ (stored e) q (w ∙ unless (eqb e.third 0 && eqb e.fourth 3 && not (eqb mode 1)))
+    ap₂ (stored e) (q ∙ as_bit _) (w ∙ unless (eqb e.third 0 && eqb e.fourth 3 && not (eqb mode 1)))

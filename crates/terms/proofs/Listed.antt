@@ -1,11 +1,12 @@
 -- The numbers that a configuration message lists, and those that it leaves 0. Assumes nothing.
-use Prim.Native.Nat.{ℕ, ◌+◌, ◌≤◌, ◌<◌, zero-le}
-use mathlib.Core.{Bool.{Bool, true, false, cond}, List.{List, ◌∷◌}, Logic.◌≢◌, Path.{◌≡◌, refl, sym, ap, ◌∙◌}}
-use native.Mathlib.Omega.{arith}
+use Prim.Native.Nat.{ℕ, zero, suc, ◌+◌, ◌≤◌, ◌<◌, zero-le}
+use mathlib.Core.{Bool.{Bool, true, false, cond, ◌&&◌}, List.{List, [], ◌∷◌}, Logic.◌≢◌, Path.{◌≡◌, refl, sym, ap, ◌∙◌}}
+use native.Mathlib.{Nat.zero-add, Omega.arith}
+use Rattle.std.specs.List.{list_all, range_with_len}
 use borrow.Author.Tests.{ne_eqb}
-use lib.{Dec.eqb, ListN.{length, get_or, drop, drop_of_length-le, get_or-eq_default}, Seq.{length-take-le, get_or-take}}
+use lib.{Dec.eqb, ListN.{length, get_or, take, drop, get_or-eq_default}, Seq.{length-take-le, get_or-take}}
 use Rattle.records.specs.declared.Event.{Event}
-use Rattle.rules.specs.{Words.{any, all_zero}, Forms.{eight, listed}}
+use Rattle.rules.specs.{Words.{any, all, all_zero}, Forms.{eight, listed}}
 use Rattle.laws.proofs.Loops.{rest, any_here, any_next, any_end}
 
 past_four : (n i : ℕ) → n ≤ i → i ≢ n → i ≢ n + 1 → i ≢ n + 2 → i ≢ n + 3 → n + 4 ≤ i
@@ -22,31 +23,22 @@ module _ (e : Event) where
   pub listed_at : {i n : ℕ} → i < e.fourth → n ≡ get_or (eight e) i 0 → n ≡ get_or (listed e) i 0
   listed_at {i} h q = q ∙ sym (get_or-take e.fourth (eight e) i 0 h)
 
-sum_first : (n k : ℕ) → n ≢ 0 → eqb (n + k) 0 ≡ false
-sum_first n k h = ne_eqb (n + k) 0 (λ z. h (omega arith))
+both_zero : (n k : ℕ) → (eqb n 0 && eqb k 0) ≡ eqb (n + k) 0
+both_zero zero k = ap (λ m. eqb m 0) (sym (zero-add k))
+both_zero (suc n) k = rw (ne_eqb (suc n) 0 (λ q. omega arith), ne_eqb (suc n + k) 0 (λ q. omega arith))
 
-sum_rest : (n k : ℕ) → n ≡ 0 → eqb (n + k) 0 ≡ eqb k 0
-sum_rest n k h = ap (λ m. eqb m 0) (let q : n + k ≡ k = omega arith in q)
+-- each of them is 0
+pub all_zero_is : (l : List ℕ) → all (λ n. eqb n 0) l ≡ all_zero l
+unfolding all all_zero
+all_zero_is [] = refl
+all_zero_is (n ∷ l) = ap (λ b. eqb n 0 && b) (all_zero_is l) ∙ both_zero n _
 
-zero_first : (n : ℕ) (l : List ℕ) → n ≢ 0 → all_zero (n ∷ l) ≡ false
-unfolding all_zero
-zero_first n l h = sum_first n _ h
-
-zero_rest : (n : ℕ) (l : List ℕ) → n ≡ 0 → all_zero (n ∷ l) ≡ all_zero l
-unfolding all_zero
-zero_rest n l h = sum_rest n _ h
-
--- what a loop keeps of `all_zero` of what is left, from number i on, and what it answers: w is what is asked
-module _ (l : List ℕ) (i : ℕ) (w : Bool) (inv : all_zero (drop i l) ≡ w) where
-  pub zero_stops : i < length l → get_or l i 0 ≢ 0 → false ≡ w
-  zero_stops h n = sym (ap all_zero (rest 0 l i h) ∙ zero_first (get_or l i 0) (drop (i + 1) l) n) ∙ inv
-
-  pub zero_goes_on : i < length l → get_or l i 0 ≡ 0 → all_zero (drop (i + 1) l) ≡ w
-  zero_goes_on h n = sym (ap all_zero (rest 0 l i h) ∙ zero_rest (get_or l i 0) (drop (i + 1) l) n) ∙ inv
-
-  pub zero_passes : length l ≤ i → true ≡ w
-  unfolding all_zero
-  zero_passes h = sym (ap all_zero (drop_of_length-le l h)) ∙ inv
+-- n elements from i on, tested by their places
+pub all_by_place : (f : ℕ → Bool) (l : List ℕ) (i n : ℕ) → i + n ≤ length l → list_all (λ k. f (get_or l k 0)) (range_with_len i n) ≡ all f (take n (drop i l))
+unfolding all
+all_by_place f l i zero h = refl
+all_by_place f l i (suc n) h =
+    rw (rest 0 l i (omega arith)) (ap (λ b. f (get_or l i 0) && b) (all_by_place f l (i + 1) n (omega arith)))
 
 same_either_way : (b : Bool) (v : ℕ) → v ≡ cond b v v
 same_either_way true v = refl

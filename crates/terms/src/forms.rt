@@ -1,5 +1,5 @@
 // The form of each kind of event, and what the fields of one say.
-ghost use Rattle.std.specs.Prelude.{◌≤◌, eqb, get_or, length, cond, not, ◌≡◌};
+ghost use Rattle.std.specs.Prelude.{◌≤◌, eqb, get_or, length, not, ◌≡◌};
 ghost use Rattle.terms.specs.Seldom.{four_bytes, rarely, seldom, two_bytes};
 ghost use Rattle.records.specs.Phone.{Phone};
 ghost use Rattle.rules.specs.Effects.{replaced};
@@ -107,29 +107,14 @@ fn listed_not_zero(e: Event) -> bool
     requires { e.fourth ≤ 8 }
     ensures { result ≡ all (λ n. not (eqb n 0)) (listed e) }
 {
-    let n = e.fourth as usize;
-    let mut i: usize = 0;
-    while i < n {
-        if listed_id(e, i) == 0 {
-            return false;
-        }
-        i += 1;
-    }
-    true
+    (0..e.fourth as usize).all(|i| listed_id(e, i) != 0)
 }
 
 fn unlisted_zero(e: Event) -> bool
     requires { e.fourth ≤ 8 }
     ensures { result ≡ all_zero (unlisted e) }
 {
-    let mut i: usize = e.fourth as usize;
-    while i < MOST {
-        if listed_id(e, i) != 0 {
-            return false;
-        }
-        i += 1;
-    }
-    true
+    (e.fourth as usize..MOST).all(|i| listed_id(e, i) == 0)
 }
 
 pub fn message_form(e: Event) -> bool
@@ -155,8 +140,8 @@ pub fn new_certificate(mode: u16, e: Event) -> Certificate
         place: e.second,
         kind: e.third,
         domain: e.fourth,
-        mark: bit((e.third == Certificate::ISSUED) | third_party_root),
-        enabled: bit(!(third_party_root & (mode != Header::ENABLE_ALL))),
+        mark: u8::from((e.third == Certificate::ISSUED) | third_party_root),
+        enabled: u8::from(!(third_party_root & (mode != Header::ENABLE_ALL))),
         key: e.key,
         verifying: e.verifying,
         owner: e.owner,
@@ -169,24 +154,10 @@ pub fn replaced(e: Event, c: Certificate) -> Certificate
     ensures { result ≡ replaced e c }
 {
     Certificate {
-        id: c.id,
-        place: c.place,
-        kind: c.kind,
-        domain: c.domain,
         mark: Certificate::VALID,
-        enabled: c.enabled,
         key: e.key,
-        verifying: c.verifying,
         owner: e.owner,
         expiry: e.expiry,
+        ..c
     }
-}
-
-fn bit(b: bool) -> u8
-    ensures { result ≡ cond b 1 0 }
-{
-    if b {
-        return 1;
-    }
-    0
 }

@@ -29,17 +29,7 @@ pub fn apart(n: u16, m: u16) -> bool
 fn zero_certificate(c: Certificate) -> bool
     ensures { result ≡ zero_certificate c }
 {
-    c.id as u64
-        + c.place as u64
-        + c.kind as u64
-        + c.domain as u64
-        + c.mark as u64
-        + c.enabled as u64
-        + c.key as u64
-        + c.verifying as u64
-        + c.owner as u64
-        + c.expiry as u64
-        == 0
+    c == Certificate::FREE
 }
 
 fn certificate_ranges(c: Certificate) -> bool
@@ -108,14 +98,14 @@ pub fn card_fits(k: Card) -> bool
 
 // ---- I4
 
-// A free slot has key 0, and no certificate has. Most keys differ in their low byte, so that is asked first.
+// A free slot has key 0, and no certificate has. Most keys differ, so that is asked first.
 pub fn key_of_one_domain(c: Certificate, e: Certificate) -> bool
     ensures { result ≡ key_of_one_domain c e }
 {
-    if c.key % 256 != e.key % 256 {
+    if c.key != e.key {
         return true;
     }
-    !((c.key != 0) & (c.key == e.key)) | (c.domain == e.domain)
+    (c.key == 0) | (c.domain == e.domain)
 }
 
 // ---- I6 Table
@@ -136,7 +126,7 @@ pub fn row_fits(r: Row) -> bool
 fn zero_executable(x: Executable) -> bool
     ensures { result ≡ zero_executable x }
 {
-    x.id as u64 + x.domain as u64 + x.blank as u64 + x.signing as u64 + x.permissions as u64 == 0
+    x == Executable::FREE
 }
 
 fn executable_fits(actions: usize, x: Executable) -> bool

@@ -1,15 +1,16 @@
 -- How many events a timeline stands for, that each of them is whole, and how many bytes they take. Assumes nothing.
 use Prim.Native.Nat.{ℕ, zero, suc, ◌*◌, ◌≤◌, ◌<◌}
-use mathlib.Core.{Bool.true, List.{List, [], ◌∷◌, ◌++◌}, Path.{◌≡◌, refl, sym, ap, subst, ◌∙◌}}
+use mathlib.Core.{Bool.{Bool, true, false, cond, false≢true}, List.{List, [], ◌∷◌, ◌++◌}, Path.{◌≡◌, refl, sym, ap, subst, ◌∙◌}}
 use native.Mathlib.Omega.{arith}
 use lib.{Dec.{eqb, eqb→eq}, ListN.{length, take, length-append, length-take}}
 use Rattle.records.specs.{Sizes.event_size, Phone.{joined, tabulate}}
 use Rattle.records.proofs.Joined.{length_tabulate}
 use Rattle.laws.proofs.Tests.{by_test, neqb→ne}
-use Rattle.timeline.specs.declared.Unrolled.{Unrolled}
+use Rattle.std.specs.Prelude.{Result, Ok, Err, is_err}
+use Rattle.rules.specs.{declared.Answer.Answer, Step.opened}
 use Rattle.timeline.specs.Timeline.{timeline_framed, timed_count, Timed, timed_at, timed, record_events, unrolled, clock_of, timeline_code}
 use Rattle.timeline.specs.Timeline.{timeline_events, most_events}
-use Rattle.timeline.specs.Unrolls.{room, unroll, Unrolls}
+use Rattle.timeline.specs.Unrolls.{room, with_code, unroll, Unrolls}
 use Rattle.timeline.proofs.{Framed.{framed_few, event_whole, fits_framed}, EventsPlaced.{Whole, clock_whole, clock_few}}
 use Rattle.timeline.proofs.{UnrollsTold.{events_none, events_all}, TimelineCodes.zero_exact}
 
@@ -94,13 +95,25 @@ module _ (l t : List ℕ) where
       (λ h. fitting_whole (eqb→eq (timeline_code l t) 0 h))
       (λ h. subst Whole (sym (events_none l t (neqb→ne (timeline_code l t) 0 h))) tt)
 
--- r is what is told of a timeline
-module _ (l t b : List ℕ) {r : Unrolled} {b' : List ℕ} (u : Unrolls l t b r b') where
-  -- it counts no more
-  pub count_few : r.count ≤ most_events
+-- r is what is told of a timeline that is not refused: n events
+module _ (l t b : List ℕ) {r : Result ℕ Answer} {b' : List ℕ} (u : Unrolls l t b r b') {n : ℕ} (e : r ≡ Ok n) where
+  -- they are those that it stands for
+  pub counted : n ≡ length (timeline_events l t)
   unfolding unroll
-  count_few = let few = events_few l t in omega (arith, ap (λ r. r.count) u.answer)
+  counted = each (eqb (timeline_code l t) 0) (sym e ∙ u.answer)
+    where
+      count : Result ℕ Answer → ℕ
+      count (Ok n) = n
+      count (Err a) = 0
+
+      each : (c : Bool) → Ok n ≡ cond c (Ok (length (timeline_events l t))) (Err (with_code (timeline_code l t) (opened l))) → n ≡ length (timeline_events l t)
+      each true e = ap count e
+      each false e = absurd (false≢true (ap is_err e))
+
+  -- no more than 2,000
+  pub count_few : n ≤ most_events
+  count_few = let few = events_few l t in omega (arith, counted)
 
   -- and 48,000 bytes have room for all of them
-  pub count_within : r.count * event_size ≤ most_events * event_size
+  pub count_within : n * event_size ≤ most_events * event_size
   count_within = let few = count_few in omega arith

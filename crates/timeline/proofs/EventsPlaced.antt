@@ -1,7 +1,7 @@
 -- Events in a buffer, one behind the other as long as there is room: one event, those of a record, and what is left of all. Assumes nothing.
 use Prim.Native.Nat.{ℕ, suc, ◌+◌, ◌-◌, ◌*◌, ◌/◌, ◌≤◌, ◌<◌}
 use mathlib.Core.{Bool.{Bool, true, false, cond}, List.{List, [], ◌∷◌, ◌++◌, append_assoc}, Path.{◌≡◌, refl, sym, ap, ap₂, ◌∙◌, subst}}
-use native.{Mathlib.Nat.{sub-zero, add-zero}, Mathlib.Omega.arith}
+use native.{Mathlib.Nat.{add-zero}, Mathlib.Omega.arith}
 use borrow.Author.Tests.{lt-ltb, le-ltb}
 use lib.{Dec.{ltb, ltb→lt, nltb→le}, ListN.{length, take, drop}, Seq.{take-nil, drop-drop}}
 use Rattle.octets.specs.Octets.{bytes, put, zeros}
@@ -25,7 +25,7 @@ module _ (b : List ℕ) (n : ℕ) (v : List ℕ) where
   event_in h = sym (ap (λ y. cond y (put b (n * event_size) v) b) (lt-ltb n (room b) h))
 
   -- there is none
-  pub event_out : room b ≤ n → b ≡ with_event b n v
+  event_out : room b ≤ n → b ≡ with_event b n v
   event_out h = sym (ap (λ y. cond y (put b (n * event_size) v) b) (le-ltb n (room b) h))
 
   -- a copy into the bytes where it belongs: w is what stands there then
@@ -69,14 +69,6 @@ module _ (b : List ℕ) (n c : ℕ) (x : Timed) {v : List ℕ} (e : v ≡ x.even
       let o : b₁ ≡ with_event b n (event_bytes (clock_event x.second)) = f ∙ ap (λ s. with_event b n (event_bytes (clock_event s))) q in
       (g ∙ ap₂ (λ b₁ v. with_event b₁ (n + 1) v) o e ∙ ap (with_more b n) w, ap (λ vs. n + length vs) w)
 
-  -- it is not
-  pub placed_one : s ≤ c → b₁ ≡ with_event b n v → Placed b n c x (n + 1) b₁
-  placed_one h f =
-      let z : ltb c x.second ≡ false = le-ltb c x.second (omega arith) in
-      let one = x.event ∷ [] in
-      let w : one ≡ record_events c x = sym (ap (λ y. cond y (event_bytes (clock_event x.second) ∷ x.event ∷ []) one) z) in
-      (f ∙ ap (with_event b n) e ∙ ap (with_more b n) w, ap (λ vs. n + length vs) w)
-
 -- ---- all of them
 
 -- each is as long as an event is
@@ -107,10 +99,6 @@ pub record Left (all : List (List ℕ)) (b₀ b : List ℕ) (n : ℕ) (rest : Li
   pub size : length b ≡ length b₀
 
 module _ (all : List (List ℕ)) (b₀ : List ℕ) where
-  -- before the first
-  pub left_all : Left all b₀ b₀ 0 all
-  left_all = record { placed = ap (λ m. put b₀ 0 (all_of (take m all))) (sub-zero (room b₀)); count = omega arith; size = refl }
-
   -- one event more, where there is room for it
   left_in : (b : List ℕ) (n : ℕ) (v : List ℕ) (rest : List (List ℕ)) → length v ≡ event_size → n < room b₀
       → Left all b₀ b n (v ∷ rest) → Left all b₀ (put b (n * event_size) v) (n + 1) rest
@@ -177,10 +165,6 @@ pub record Unrolling (all : List (List ℕ)) (b₀ t b : List ℕ) (c n i : ℕ)
 module _ (b₀ t : List ℕ) (c₀ : ℕ) where
   abbrev all_events : List (List ℕ)
   all_events = unrolled c₀ (timed t)
-
-  -- before the first record
-  pub unrolling_starts : Unrolling all_events b₀ t b₀ c₀ 0 0
-  unrolling_starts = record { within = omega arith; few = omega arith; left = left_all all_events b₀ }
 
   module _ (b : List ℕ) (c n i : ℕ) (u : Unrolling all_events b₀ t b c n i) where
     -- one record more

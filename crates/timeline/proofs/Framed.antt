@@ -2,7 +2,7 @@
 use Prim.Native.Nat.{ℕ, ◌+◌, ◌*◌, ◌≤◌, ◌<◌}
 use mathlib.Core.{Bool.{Bool, true, false, not, ◌&&◌, false≢true}, List.{List, [], ◌∷◌}, Path.{◌≡◌, refl, sym, ap, ap₂, ◌∙◌}}
 use native.{Mathlib.Nat.add-zero, Mathlib.Omega.arith}
-use borrow.Author.Tests.{eqb-true, leb-true, not-true, not-false}
+use borrow.Author.Tests.{eqb-true, leb-true}
 use lib.{Dec.{eqb, leb}, ListN.{length, get_or, drop, length-drop, drop_of_length-le}, Seq.{get_or-take, get_or-drop, length-take-le}}
 use Rattle.octets.specs.Octets.{be, be8, be16, be32}
 use Rattle.records.specs.Sizes.{event_size}
@@ -100,36 +100,20 @@ module _ (t : List ℕ) (i : ℕ) where
 
 module _ (t : List ℕ) (i c : ℕ) {w : Bool} (inv : in_time c (drop i (timed t)) ≡ w) where
   -- a record that does not fit
-  pub in_time_stops : i < timed_count t → {b : Bool} → b ≡ timed_fits c (timed_at t i) → not b ≡ true → false ≡ w
+  pub in_time_stops : i < timed_count t → {b : Bool} → b ≡ timed_fits c (timed_at t i) → b ≡ false → false ≡ w
   unfolding in_time
-  in_time_stops h {b} q n = sym (rw (timed_next t i h, sym q ∙ not-true b n)) ∙ inv
+  in_time_stops h q n = sym (rw (timed_next t i h, sym q ∙ n)) ∙ inv
 
   -- one that does
-  pub in_time_goes_on : i < timed_count t → {b : Bool} → b ≡ timed_fits c (timed_at t i) → not b ≡ false → {s : ℕ} → s ≡ (timed_at t i).second
+  pub in_time_goes_on : i < timed_count t → {b : Bool} → b ≡ timed_fits c (timed_at t i) → b ≡ true → {s : ℕ} → s ≡ (timed_at t i).second
       → in_time s (drop (i + 1) (timed t)) ≡ w
   unfolding in_time
-  in_time_goes_on h {b} q n e =
-      ap (λ s. in_time s (drop (i + 1) (timed t))) e ∙ sym (rw (timed_next t i h, sym q ∙ not-false b n)) ∙ inv
+  in_time_goes_on h q n e = ap (λ s. in_time s (drop (i + 1) (timed t))) e ∙ sym (rw (timed_next t i h, sym q ∙ n)) ∙ inv
 
   -- and no record left
   pub in_time_ends : timed_count t ≤ i → true ≡ w
   unfolding in_time
   in_time_ends h = sym (rw (timed_end t i h)) ∙ inv
-
--- ---- the form and the seconds together, where b is what the test of the form gives
-
-module _ (c : ℕ) (t : List ℕ) {b : Bool} (e : b ≡ timeline_framed t) where
-  -- it passes
-  pub framed_so : not b ≡ false → timeline_framed t ≡ true
-  framed_so n = sym e ∙ not-false b n
-
-  -- one without the form does not fit
-  pub fits_not : not b ≡ true → false ≡ timeline_fits c t
-  fits_not n = rw (sym e ∙ not-true b n)
-
-  -- one with it fits where its seconds do
-  pub fits_so : not b ≡ false → {r : Bool} → r ≡ in_time c (timed t) → r ≡ timeline_fits c t
-  fits_so n q = rw (framed_so n) q
 
 -- a timeline that fits has the form
 pub fits_framed : (c : ℕ) (t : List ℕ) → timeline_fits c t ≡ true → timeline_framed t ≡ true

@@ -8,7 +8,9 @@ ghost use Rattle.timeline.specs.Timeline.{timed_count, timeline_framed, timed_at
 ghost use Rattle.timeline.specs.Timeline.{clock_event, record_events, unrolled};
 ghost use Rattle.timeline.specs.Unrolls.{with_event, with_more, with_events, Unrolls};
 
+use octets::Number;
 use records::{Event, image};
+use rules::Answer;
 
 // The header: what it says, and where.
 pub const VERSION: u16 = 1;
@@ -31,7 +33,7 @@ fn count(t: &[u8]) -> usize
     requires { 8 ≤ length t.now }
     ensures { result ≡ timed_count t.now }
 {
-    octets::read16(t, 2) as usize
+    u16::read(t, 2) as usize
 }
 
 fn is_framed(t: &[u8]) -> bool
@@ -40,9 +42,9 @@ fn is_framed(t: &[u8]) -> bool
     if t.len() < START {
         return false;
     }
-    (octets::read16(t, 0) == VERSION)
-        & (octets::read16(t, 2) <= MOST)
-        & (octets::read32(t, 4) == START as u32)
+    (u16::read(t, 0) == VERSION)
+        & (u16::read(t, 2) <= MOST)
+        & (u32::read(t, 4) == START as u32)
         & (t.len() == START + count(t) * SIZE)
 }
 
@@ -52,7 +54,7 @@ fn second(t: &[u8], i: usize) -> u32
     requires i_bound { i < timed_count t.now }
     ensures { result ≡ (timed_at t.now i).second }
 {
-    octets::read32(t, START + i * SIZE)
+    u32::read(t, START + i * SIZE)
 }
 
 // Whether record i may stand behind a second.
@@ -62,24 +64,21 @@ fn record_fits(t: &[u8], i: usize, before: u32) -> bool
     ensures { result ≡ timed_fits before (timed_at t.now i) }
 {
     let at = START + i * SIZE;
-    (before <= octets::read32(t, at))
-        & (octets::read32(t, at + 4) == 0)
-        & (octets::read8(t, at + 8) != Event::CLOCK)
+    (before <= u32::read(t, at))
+        & (u32::read(t, at + 4) == 0)
+        & (u8::read(t, at + 8) != Event::CLOCK)
 }
 
 fn in_time(t: &[u8], clock: u32) -> bool
     requires { timeline_framed t.now ≡ true }
     ensures { result ≡ in_time clock (timed t.now) }
 {
-    let n = count(t);
     let mut before = clock;
-    let mut i: usize = 0;
-    while i < n {
+    for i in 0..count(t) {
         if !record_fits(t, i, before) {
             return false;
         }
         before = second(t, i);
-        i += 1;
     }
     true
 }
@@ -88,10 +87,7 @@ fn in_time(t: &[u8], clock: u32) -> bool
 fn fits(t: &[u8], clock: u32) -> bool
     ensures { result ≡ timeline_fits clock t.now }
 {
-    if !is_framed(t) {
-        return false;
-    }
-    in_time(t, clock)
+    is_framed(t) && in_time(t, clock)
 }
 
 // ---- the events
@@ -113,8 +109,8 @@ fn put_clock(events: &mut [u8], n: usize, second: u32)
     ensures { events.new ≡ with_event events.old n (event_bytes (clock_event second)) }
 {
     let mut v = [0u8; Event::SIZE];
-    octets::write8(&mut v, Event::KIND, Event::CLOCK);
-    octets::write32(&mut v, Event::KEY, second);
+    Event::CLOCK.write(&mut v, Event::KIND);
+    second.write(&mut v, Event::KEY);
     put_event(events, n, &v);
 }
 
@@ -143,55 +139,33 @@ fn put_records(events: &mut [u8], t: &[u8], clock: u32) -> usize
     ensures { (events.new ≡ with_events events.old (unrolled clock (timed t.now)))
         × (result ≡ length (unrolled clock (timed t.now))) }
 {
-    let records = count(t);
     let mut before = clock;
     let mut n: usize = 0;
-    let mut i: usize = 0;
-    while i < records {
+    for i in 0..count(t) {
         n = put_record(events, n, t, i, before);
         before = second(t, i);
-        i += 1;
     }
     n
 }
 
-// What is told of a timeline: code 0, 1 or 19, for 1 the broken rule of the image and where, and how many events there are.
-#[derive(Clone, Copy)]
-pub struct Unrolled {
-    pub code: u8,
-    pub rule: u8,
-    pub offset: u16,
-    pub count: usize,
-}
-
-// The events of a timeline for an image with the clock events put in, as many as the buffer has room for. Any bytes.
-pub fn unroll(s: &[u8], t: &[u8], events: &mut [u8]) -> Unrolled
+// The events of a timeline for an image with the clock events put in, as many as the buffer has room for: how many there are, or what is told of
+// an image that is refused, with code 1, or of a timeline that does not fit it, with code 19. Any bytes.
+pub fn unroll(s: &[u8], t: &[u8], events: &mut [u8]) -> Result<usize, Answer>
     ensures { Unrolls s.now t.now events.old result events.new }
 {
-    let fault = opening::open(s);
-    if fault.rule != 0 {
-        let told = opening::told(s, fault);
-        return Unrolled {
-            code: 1,
-            rule: told.rule,
-            offset: told.offset,
-            count: 0,
-        };
+    let outcome = opening::open(s);
+    if outcome.is_err() {
+        return Err(opening::told(s, outcome));
     }
     let clock = image::clock(s);
     if !fits(t, clock) {
-        return Unrolled {
+        return Err(Answer {
             code: 19,
+            domain: 0,
+            links: 0,
             rule: 0,
             offset: 0,
-            count: 0,
-        };
+        });
     }
-    let count = put_records(events, t, clock);
-    Unrolled {
-        code: 0,
-        rule: 0,
-        offset: 0,
-        count,
-    }
+    Ok(put_records(events, t, clock))
 }

@@ -12,25 +12,25 @@ written p q = (refl, ap (λ l. l ∷ []) (returned p q))
 
 -- ==== octets
 
-pub one_octets_read8 : OneResult Rattle.octets.proofs.read8.Reads.Learnt
+pub one_octets_read8 : OneResult Rattle.octets.proofs.U8Number.read.Reads.Learnt
 one_octets_read8 κs a r r' e e' = returned
 
-pub one_octets_read16 : OneResult Rattle.octets.proofs.read16.Reads.Learnt
+pub one_octets_read16 : OneResult Rattle.octets.proofs.U16Number.read.Reads.Learnt
 one_octets_read16 κs a r r' e e' = returned
 
-pub one_octets_read32 : OneResult Rattle.octets.proofs.read32.Reads.Learnt
+pub one_octets_read32 : OneResult Rattle.octets.proofs.U32Number.read.Reads.Learnt
 one_octets_read32 κs a r r' e e' = returned
 
 pub one_octets_is16 : OneResult Rattle.octets.proofs.is16.Reads.Learnt
 one_octets_is16 κs a r r' e e' = returned
 
-pub one_octets_write8 : OneOutcome Rattle.octets.proofs.write8.Reads.Learnt (λ e. e.0.now ∷ [])
+pub one_octets_write8 : OneOutcome Rattle.octets.proofs.U8Number.write.Reads.Learnt (λ e. e.1.0.now ∷ [])
 one_octets_write8 κs a r r' e e' = written
 
-pub one_octets_write16 : OneOutcome Rattle.octets.proofs.write16.Reads.Learnt (λ e. e.0.now ∷ [])
+pub one_octets_write16 : OneOutcome Rattle.octets.proofs.U16Number.write.Reads.Learnt (λ e. e.1.0.now ∷ [])
 one_octets_write16 κs a r r' e e' = written
 
-pub one_octets_write32 : OneOutcome Rattle.octets.proofs.write32.Reads.Learnt (λ e. e.0.now ∷ [])
+pub one_octets_write32 : OneOutcome Rattle.octets.proofs.U32Number.write.Reads.Learnt (λ e. e.1.0.now ∷ [])
 one_octets_write32 κs a r r' e e' = written
 
 pub one_octets_clear : OneOutcome Rattle.octets.proofs.clear.Reads.Learnt (λ e. e.0.now ∷ [])
@@ -273,6 +273,9 @@ one_chain_settle κs a r r' e e' = written
 
 -- ==== handling
 
+pub one_handling_refusal_code : OneResult Rattle.handling.proofs.Refusal.code.Reads.Learnt
+one_handling_refusal_code κs a r r' e e' = returned
+
 pub one_handling_refused : OneResult Rattle.handling.proofs.refused.Reads.Learnt
 one_handling_refused κs a r r' e e' = returned
 
@@ -304,5 +307,5 @@ one_differences_answer_of κs a r r' e e' = returned
 pub one_differences_kind_of : OneResult Rattle.differences.proofs.kind_of.Reads.Learnt
 one_differences_kind_of κs a r r' e e' = returned
 
-pub one_differences_tell_case : OneResult Rattle.differences.proofs.tell_case.Reads.Learnt
+pub one_differences_tell_case : OneResult Rattle.differences.proofs.Case.tell.Reads.Learnt
 one_differences_tell_case κs a r r' e e' = returned

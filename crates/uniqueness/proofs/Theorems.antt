@@ -7,7 +7,12 @@ use Rattle.records.specs.{Phone.{Phone, tabulate, decode, no_row}, declared.Even
 use Rattle.records.proofs.Joined.{length_tabulate}
 use Rattle.rules.specs.declared.Answer.{Answer}
 use Rattle.events.specs.Stepped.{Stepped}
-use Rattle.handling.specs.Handled.{Handled, Settled}
+use Rattle.std.specs.Prelude.{Option, Some, None, Result}
+use Rattle.bits.specs.{declared.slots.Slots.Slots, GivesSlots.GivesLowest}
+use Rattle.sweep.specs.FirstPassing.{IsFirst}
+use Rattle.sweep.proofs.OneFirst.{one_first}
+use Rattle.handling.specs.{declared.Refusal.Refusal, RefusalCodes.by_code, Handled.{Tried, Settled}}
+use Rattle.handling.proofs.PlanLaws.{same_coded}
 use Rattle.monitor.specs.Told.{Followed}
 use Rattle.differences.specs.Compared.{Differ}
 use Rattle.uniqueness.specs.Outcomes.{OneResult, OneOutcome}
@@ -38,7 +43,21 @@ one_image_executable_slots κs a r r' e e' x y = returned x.0 y.0
 pub one_image_action_count : OneResult Rattle.records.proofs.image.action_count.Reads.Learnt
 one_image_action_count κs a r r' e e' x y = returned x.0 y.0
 
--- ==== opening: the fault, and what none promises; the answer that tells it
+-- ==== bits: what a walk through the slots of a word gives next, and what it leaves
+
+pub one_slots_next : (s t u : Slots) (r q : Option ℕ) → GivesLowest s r t → GivesLowest s q u → (r ≡ q) × (t.0 ≡ u.0)
+one_slots_next s t u None None x y = (refl, returned x.1 y.1)
+one_slots_next s t u None (Some j) x y = absurd (y.0 x.0)
+one_slots_next s t u (Some i) None x y = absurd (x.0 y.0)
+one_slots_next s t u (Some i) (Some j) x y = (ap Some (returned x.1 y.1), returned x.2 y.2)
+
+-- ==== sweep: the first slot that passes, where the test answers each slot one thing alone
+
+pub one_sweep_first : (gives : ℕ → Bool → Type 0) → ((i : ℕ) (b b' : Bool) → gives i b → gives i b' → b ≡ b') → (n : ℕ)
+    → (r r' : Option ℕ) → IsFirst gives n r → IsFirst gives n r' → r ≡ r'
+one_sweep_first = one_first
+
+-- ==== opening: the fault if there is one, and what none promises; the answer that tells it
 
 pub one_opening_open : OneResult Rattle.opening.proofs.open.Reads.Learnt
 one_opening_open κs a r r' e e' x y = returned x.answer y.answer
@@ -90,58 +109,61 @@ one_handling_settle_if κs a r r' e e' = one_settled
 pub one_handling_settle_own : OneOutcome Rattle.handling.proofs.settle_own.Reads.Learnt (λ e. e.0.now ∷ [])
 one_handling_settle_own κs a r r' e e' = one_settled
 
--- ==== device, certificates, executables: the answer and the image
+-- ==== device, certificates, executables: the answer or the refusal, and the image
 
-one_handled : {l l' l'' : List ℕ} {e : Event} {r r' : Answer} → Handled l e r l' → Handled l e r' l'' → (r ≡ r') × (l' ∷ [] ≡ l'' ∷ [])
-one_handled x y = (returned x.answer y.answer, buffer x.image y.image)
+same_told : {x y : Result Answer Refusal} {z : Result Answer ℕ} → by_code x ≡ z → by_code y ≡ z → x ≡ y
+same_told {x} {y} p q = same_coded x y (returned p q)
+
+one_tried : {l l' l'' : List ℕ} {e : Event} {r r' : Result Answer Refusal} → Tried l e r l' → Tried l e r' l'' → (r ≡ r') × (l' ∷ [] ≡ l'' ∷ [])
+one_tried x y = (same_told x.answer y.answer, buffer x.image y.image)
 
 pub one_device_clock : OneOutcome Rattle.device.proofs.clock.Reads.Learnt (λ e. e.0.now ∷ [])
-one_device_clock κs a r r' e e' = one_handled
+one_device_clock κs a r r' e e' = one_tried
 
 pub one_device_card_in : OneOutcome Rattle.device.proofs.card_in.Reads.Learnt (λ e. e.0.now ∷ [])
-one_device_card_in κs a r r' e e' = one_handled
+one_device_card_in κs a r r' e e' = one_tried
 
 pub one_device_card_out : OneOutcome Rattle.device.proofs.card_out.Reads.Learnt (λ e. e.0.now ∷ [])
-one_device_card_out κs a r r' e e' = one_handled
+one_device_card_out κs a r r' e e' = one_tried
 
 pub one_device_power_up : OneOutcome Rattle.device.proofs.power_up.Reads.Learnt (λ e. e.0.now ∷ [])
-one_device_power_up κs a r r' e e' = one_handled
+one_device_power_up κs a r r' e e' = one_tried
 
 pub one_certificates_install_certificate : OneOutcome Rattle.certificates.proofs.install_certificate.Reads.Learnt (λ e. e.0.now ∷ [])
-one_certificates_install_certificate κs a r r' e e' = one_handled
+one_certificates_install_certificate κs a r r' e e' = one_tried
 
 pub one_certificates_delete_certificate : OneOutcome Rattle.certificates.proofs.delete_certificate.Reads.Learnt (λ e. e.0.now ∷ [])
-one_certificates_delete_certificate κs a r r' e e' = one_handled
+one_certificates_delete_certificate κs a r r' e e' = one_tried
 
 pub one_certificates_mark_valid : OneOutcome Rattle.certificates.proofs.mark_valid.Reads.Learnt (λ e. e.0.now ∷ [])
-one_certificates_mark_valid κs a r r' e e' = one_handled
+one_certificates_mark_valid κs a r r' e e' = one_tried
 
 pub one_certificates_mark_invalid : OneOutcome Rattle.certificates.proofs.mark_invalid.Reads.Learnt (λ e. e.0.now ∷ [])
-one_certificates_mark_invalid κs a r r' e e' = one_handled
+one_certificates_mark_invalid κs a r r' e e' = one_tried
 
 pub one_certificates_replace : OneOutcome Rattle.certificates.proofs.replace.Reads.Learnt (λ e. e.0.now ∷ [])
-one_certificates_replace κs a r r' e e' = one_handled
+one_certificates_replace κs a r r' e e' = one_tried
 
 pub one_certificates_message : OneOutcome Rattle.certificates.proofs.message.Reads.Learnt (λ e. e.0.now ∷ [])
-one_certificates_message κs a r r' e e' = one_handled
+one_certificates_message κs a r r' e e' = one_tried
 
 pub one_executables_install_executable : OneOutcome Rattle.executables.proofs.install_executable.Reads.Learnt (λ e. e.0.now ∷ [])
-one_executables_install_executable κs a r r' e e' = one_handled
+one_executables_install_executable κs a r r' e e' = one_tried
 
 pub one_executables_delete_executable : OneOutcome Rattle.executables.proofs.delete_executable.Reads.Learnt (λ e. e.0.now ∷ [])
-one_executables_delete_executable κs a r r' e e' = one_handled
+one_executables_delete_executable κs a r r' e e' = one_tried
 
 pub one_executables_verify : OneOutcome Rattle.executables.proofs.verify.Reads.Learnt (λ e. e.0.now ∷ [])
-one_executables_verify κs a r r' e e' = one_handled
+one_executables_verify κs a r r' e e' = one_tried
 
 pub one_executables_give : OneOutcome Rattle.executables.proofs.give.Reads.Learnt (λ e. e.0.now ∷ [])
-one_executables_give κs a r r' e e' = one_handled
+one_executables_give κs a r r' e e' = one_tried
 
 pub one_executables_withdraw : OneOutcome Rattle.executables.proofs.withdraw.Reads.Learnt (λ e. e.0.now ∷ [])
-one_executables_withdraw κs a r r' e e' = one_handled
+one_executables_withdraw κs a r r' e e' = one_tried
 
 pub one_executables_request : OneResult Rattle.executables.proofs.request.Reads.Learnt
-one_executables_request κs a r r' e e' x y = returned x.answer y.answer
+one_executables_request κs a r r' e e' x y = same_told x.answer y.answer
 
 -- ==== events: the answer and the image
 
@@ -159,7 +181,7 @@ one_events_step κs a r r' e e' = one_stepped
 pub one_reasons_explain : OneOutcome Rattle.reasons.proofs.explain.Reads.Learnt (λ e. e.1.1.0.now ∷ [])
 one_reasons_explain κs a r r' e e' x y = (returned x.answer y.answer, buffer x.told y.told)
 
--- ==== timeline: the answer, and the buffer of events
+-- ==== timeline: the number of events or the answer, and the buffer of events
 
 pub one_timeline_unroll : OneOutcome Rattle.timeline.proofs.unroll.Reads.Learnt (λ e. e.1.1.0.now ∷ [])
 one_timeline_unroll κs a r r' e e' x y = (returned x.answer y.answer, buffer x.events y.events)
@@ -212,10 +234,10 @@ one_differ false false x y = refl
 one_differ true false x y = absurd (x.other refl (y.same refl))
 one_differ false true x y = absurd (y.other refl (x.same refl))
 
-pub one_differences_image_differs : OneResult Rattle.differences.proofs.image_differs.Reads.Learnt
+pub one_differences_image_differs : OneResult Rattle.differences.proofs.Case.image_differs.Reads.Learnt
 one_differences_image_differs κs a r r' e e' = one_differ r r'
 
-pub one_differences_answers_differ : OneResult Rattle.differences.proofs.answers_differ.Reads.Learnt
+pub one_differences_answers_differ : OneResult Rattle.differences.proofs.Case.answers_differ.Reads.Learnt
 one_differences_answers_differ κs a r r' e e' = one_differ r r'
 
 -- ==== differences: the first place of a byte, since no two places are the first

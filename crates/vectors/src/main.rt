@@ -7,18 +7,17 @@
 
 mod coverage;
 
-ghost use Rattle.std.specs.Prelude.{◌+◌, ◌/◌, ◌≤◌, ◌<◌, min, ◌≡◌, length};
+ghost use Rattle.std.specs.Prelude.{◌/◌, ◌≤◌, length};
 ghost use Rattle.records.specs.Sizes.{largest_image};
 
-use coverage::COUNTS;
-use differences::Way;
+use coverage::Coverage;
+use differences::{Case, Way};
 use records::{Event, image};
 use std::fs::File;
 use std::os::fd::AsRawFd;
 use std::rt::Files;
 use stream::STDOUT;
 
-const MOST_CASES: u64 = 1000000;
 // More than the events of a case have room for.
 const MOST_EVENTS: usize = 4096;
 
@@ -26,28 +25,6 @@ const ANSWER_SIZE: usize = 6;
 
 // No code: an answer that is never told shows.
 const UNTOLD: u8 = 255;
-
-// ---- text
-
-fn least(a: usize, b: usize) -> usize
-    ensures { result ≡ min a b }
-{
-    if a < b {
-        return a;
-    }
-    b
-}
-
-// The place behind i, or the end.
-fn after(text: &[u8], i: usize) -> usize
-    requires { i ≤ length text.now }
-    ensures { (i ≤ result) × (result ≤ length text.now) }
-{
-    if i < text.len() {
-        return i + 1;
-    }
-    i
-}
 
 // ---- files
 
@@ -83,35 +60,22 @@ fn read_rest(file: File, buf: &mut [u8]) -> usize
 
 // ---- the ways through the library
 
-// Byte j of the i-th answer.
-fn told(answers: &[u8], i: usize, j: usize) -> u8
-    requires { (i < 65536) × (j < 6) }
-{
-    let at = i * ANSWER_SIZE + j;
-    if at < answers.len() {
-        return answers[at];
-    }
-    0
-}
-
-// The number that a step would answer, from the bytes of the i-th answer.
-fn number_told(answers: &[u8], i: usize) -> u64
-    requires { i < 65536 }
-{
-    let offset = told(answers, i, 4) as u64 * 256 + told(answers, i, 5) as u64;
-    let placed = offset * 256 + told(answers, i, 3) as u64;
-    let coded = placed * 256 + told(answers, i, 0) as u64;
-    (coded * 256 + told(answers, i, 1) as u64) * 256 + told(answers, i, 2) as u64
+// The number that a step would answer, from the bytes of an answer.
+fn number_told(answer: &[u8]) -> u64 {
+    let &[code, domain, links, rule, high, low] = answer else {
+        return 0;
+    };
+    u64::from_be_bytes([0, 0, high, low, rule, code, domain, links])
 }
 
 // The n answers of a run, from the event `done` on, as the numbers that steps would answer.
 fn note(told: &mut [u64], done: usize, answers: &[u8], n: usize)
     requires { (done ≤ 4096) × (n ≤ 4096) }
 {
-    let mut i = 0;
-    while i < n && done + i < told.len() {
-        told[done + i] = number_told(answers, i);
-        i += 1;
+    for (i, answer) in answers.chunks_exact(ANSWER_SIZE).take(n).enumerate() {
+        if done + i < told.len() {
+            told[done + i] = number_told(answer);
+        }
     }
 }
 
@@ -120,7 +84,7 @@ fn run(image: &mut [u8], events: &[u8], done: usize, told: &mut [u64], answers: 
     requires { (done ≤ 4096) × (length answers.old ≤ 24576) }
     ensures { result ≤ length answers.old / 6 }
 {
-    let at = least(done * Event::SIZE, events.len());
+    let at = (done * Event::SIZE).min(events.len());
     let n = monitor::monitor_run(image, &events[at..], answers);
     note(told, done, answers, n);
     n
@@ -141,7 +105,7 @@ fn run_piece(image: &mut [u8], events: &[u8], done: usize, told: &mut [u64]) -> 
     run(image, events, done, told, &mut answers)
 }
 
-// Piece after piece, each going on behind the last event that was answered, until every one is.
+// Piece after piece, each going on behind the last event that was answered, until every one is. No count is gone through: a piece says how far it came.
 fn run_in_pieces(image: &mut [u8], events: &[u8], told: &mut [u64]) -> usize {
     let mut done = 0;
     while done <= MOST_EVENTS && done * Event::SIZE < events.len() {
@@ -154,25 +118,15 @@ fn run_in_pieces(image: &mut [u8], events: &[u8], told: &mut [u64]) -> usize {
     done
 }
 
-// The i-th event as a step of its own.
-fn run_step(image: &mut [u8], events: &[u8], i: usize) -> u64
-    requires { i ≤ 4096 }
-{
-    let at = least(i * Event::SIZE, events.len());
-    let end = least(at + Event::SIZE, events.len());
-    monitor::monitor_step(image, &events[at..end])
-}
-
+// Each event as a step of its own.
 fn run_by_steps(image: &mut [u8], events: &[u8], told: &mut [u64]) -> usize {
-    let mut i = 0;
-    while i < MOST_EVENTS && i < told.len() && i * Event::SIZE < events.len() {
-        told[i] = run_step(image, events, i);
-        i += 1;
+    for (told, event) in told.iter_mut().zip(events.chunks(Event::SIZE)) {
+        *told = monitor::monitor_step(image, event);
     }
-    i
+    told.len().min(events.len().div_ceil(Event::SIZE))
 }
 
-// The events of a buffer one way, on an image; how many were answered.
+// The events of a buffer one way, on an image; how many were answered. A closure for each way would be picked by the same match.
 fn run_by(way: Way, image: &mut [u8], events: &[u8], told: &mut [u64]) -> usize {
     match way {
         Way::Whole => run_whole(image, events, told),
@@ -183,66 +137,51 @@ fn run_by(way: Way, image: &mut [u8], events: &[u8], told: &mut [u64]) -> usize 
 
 // ---- a case
 
-// Whether the answers differ; what they cover is counted.
-fn answers_differ(
-    name: &[u8],
-    way: Way,
-    opened: u64,
-    events: &[u8],
-    told: &[u64],
-    want: &[u8],
-    seen: &mut [u64],
-) -> bool
-    requires { length told.now ≤ 4096 }
-{
-    coverage::count_answers(seen, events, told);
-    differences::answers_differ(name, way, opened, events, told, want)
+// A stored case: its name, the image and the events of its stream, what `bench` writes of them, and the image afterwards.
+#[derive(Clone, Copy)]
+struct Stored<'a> {
+    name: &'a [u8],
+    first: &'a [u8],
+    events: &'a [u8],
+    want: &'a [u8],
+    last: &'a [u8],
 }
 
-// Whether the answers or the image differ one way.
-fn way_differs(
-    name: &[u8],
-    way: Way,
-    first: &[u8],
-    events: &[u8],
-    want: &[u8],
-    last: &[u8],
-    seen: &mut [u64],
-) -> bool
-    requires { length first.now ≤ largest_image }
-{
-    let opened = monitor::monitor_open(first);
-    let size = first.len();
-    let mut image = [0u8; image::LARGEST];
-    stream::put_text(&mut image, 0, first);
-    let mut told = [0u64; MOST_EVENTS];
-    let n = run_by(way, &mut image[..size], events, &mut told);
-    let m = least(n, MOST_EVENTS);
-    let a = answers_differ(name, way, opened, events, &told[..m], want, seen);
-    let b = differences::image_differs(name, way, &image[..size], last);
-    a | b
-}
-
-// The ways that are asked for; what was covered is counted once.
-fn ways_differ(
-    name: &[u8],
-    every_way: bool,
-    first: &[u8],
-    events: &[u8],
-    want: &[u8],
-    last: &[u8],
-    seen: &mut [u64],
-) -> bool
-    requires { length first.now ≤ largest_image }
-{
-    let whole = way_differs(name, Way::Whole, first, events, want, last, seen);
-    if !every_way {
-        return whole;
+impl Stored<'_> {
+    // Whether the answers or the image differ one way. What a whole run covers is counted, and so counted once.
+    fn differs(&self, way: Way, seen: &mut Coverage) -> bool
+        requires { length self.now.first.now ≤ largest_image }
+    {
+        let opened = monitor::monitor_open(self.first);
+        let size = self.first.len();
+        let mut image = [0u8; image::LARGEST];
+        image[..size].copy_from_slice(self.first);
+        let mut told = [0u64; MOST_EVENTS];
+        let n = run_by(way, &mut image[..size], self.events, &mut told).min(MOST_EVENTS);
+        if matches!(way, Way::Whole) {
+            seen.count_answers(self.events, &told[..n]);
+        }
+        let case = Case {
+            name: self.name,
+            way,
+        };
+        let answers = case.answers_differ(opened, self.events, &told[..n], self.want);
+        let images = case.image_differs(&image[..size], self.last);
+        answers | images
     }
-    let mut none = [0u64; 0];
-    let pieces = way_differs(name, Way::Pieces, first, events, want, last, &mut none);
-    let steps = way_differs(name, Way::Steps, first, events, want, last, &mut none);
-    whole | pieces | steps
+
+    // The ways that are asked for.
+    fn ways_differ(&self, every_way: bool, seen: &mut Coverage) -> bool
+        requires { length self.now.first.now ≤ largest_image }
+    {
+        let whole = self.differs(Way::Whole, seen);
+        if !every_way {
+            return whole;
+        }
+        let pieces = self.differs(Way::Pieces, seen);
+        let steps = self.differs(Way::Steps, seen);
+        whole | pieces | steps
+    }
 }
 
 // How many bytes of events are asked: a refused image is asked an event of zeros where its case has none.
@@ -287,7 +226,7 @@ fn stream_differs<R: Files<File = File>>(
     every_way: bool,
     given: File,
     want: &[u8],
-    seen: &mut [u64],
+    seen: &mut Coverage,
 ) -> bool {
     let mut first = [0u8; image::LARGEST];
     let i = stream::read_image(given.as_raw_fd(), &mut first);
@@ -297,24 +236,32 @@ fn stream_differs<R: Files<File = File>>(
     let n = asked(opened, e);
     let mut last = io::buffer();
     let l = read_last(rt, name, opened, &first[..i], &mut last);
-    ways_differ(
+    let stored = Stored {
         name,
-        every_way,
-        &first[..i],
-        &events[..n],
+        first: &first[..i],
+        events: &events[..n],
         want,
-        &last[..l],
-        seen,
-    )
+        last: &last[..l],
+    };
+    stored.ways_differ(every_way, seen)
 }
 
 // A case by its name.
-fn case<R: Files<File = File>>(rt: &R, name: &[u8], every_way: bool, seen: &mut [u64]) -> bool {
+fn case_differs<R: Files<File = File>>(
+    rt: &R,
+    name: &[u8],
+    every_way: bool,
+    seen: &mut Coverage,
+) -> bool {
+    let case = Case {
+        name,
+        way: Way::Whole,
+    };
     let Some(given) = open_part(rt, name, b".in") else {
-        return differences::tell_case(name, Way::Whole, b".in cannot be read\n");
+        return case.tell(b".in cannot be read\n");
     };
     let Some(expected) = open_part(rt, name, b".out") else {
-        return differences::tell_case(name, Way::Whole, b".out cannot be read\n");
+        return case.tell(b".out cannot be read\n");
     };
     let mut want = io::large_buffer();
     let w = read_rest(expected, &mut want);
@@ -323,25 +270,15 @@ fn case<R: Files<File = File>>(rt: &R, name: &[u8], every_way: bool, seen: &mut 
 
 // ---- all of them
 
-fn one_if(b: bool) -> u64
-    ensures { result ≤ 1 }
-{
-    if b {
-        return 1;
-    }
-    0
-}
-
-fn all_cases<R: Files<File = File>>(rt: &R, list: &[u8], every_way: bool, seen: &mut [u64]) {
-    let mut run: u64 = 0;
-    let mut differing: u64 = 0;
-    let mut i = 0;
-    while run < MOST_CASES && i < list.len() {
-        let line_end = differences::find(list, i, b'\n');
-        let end = least(differences::find(list, i, b' '), line_end);
-        differing += one_if(case(rt, &list[i..end], every_way, seen));
-        run += 1;
-        i = after(list, line_end);
+// A line of the list names a case, up to the first space.
+fn all_cases<R: Files<File = File>>(rt: &R, list: &[u8], every_way: bool, seen: &mut Coverage) {
+    let mut run = 0u64;
+    let mut differing = 0u64;
+    for line in list.split_inclusive(|b| *b == b'\n') {
+        let end = differences::find(line, 0, b' ').min(differences::find(line, 0, b'\n'));
+        let differs = case_differs(rt, &line[..end], every_way, seen);
+        run = run.saturating_add(1);
+        differing = differing.saturating_add(u64::from(differs));
     }
     io::print_decimal(STDOUT, run);
     io::write_all(STDOUT, b" cases, ");
@@ -356,9 +293,9 @@ fn main(rt: HostRuntime) -> std::io::Result<()> {
     };
     let mut list = io::large_buffer();
     let n = read_rest(cases, &mut list);
-    let mut seen = [0u64; COUNTS];
+    let mut seen = Coverage::new();
     let every_way = stream::word(&rt, 1, &mut [0u8; 0]).is_some();
     all_cases(&rt, &list[..n], every_way, &mut seen);
-    coverage::report(&seen);
+    seen.report();
     Ok(())
 }

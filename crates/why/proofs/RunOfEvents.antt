@@ -1,5 +1,5 @@
 -- Events that are stepped one after the other: none, one more, and no more than more of them. Assumes nothing.
-use Prim.Native.Nat.{ℕ, ◌+◌, ◌≤◌}
+use Prim.Native.Nat.{ℕ, ◌+◌}
 use mathlib.Core.{List.{List, [], ◌∷◌, ◌++◌}, Path.{◌≡◌, refl, sym, ap, ◌∙◌}}
 use native.Mathlib.Omega.{arith}
 use lib.ListN.{length-append}
@@ -24,6 +24,3 @@ ran_one_more {l = l} {v = v} h s =
       few = omega (arith, length-append h.events (v ∷ []), h.few);
       image = s.stepped.image ∙ ap (λ (m : List ℕ). (step m v).image) h.image ∙ sym (run_append l h.events (v ∷ []));
     }
-
-pub ran_fewer : {l : List ℕ} {n most : ℕ} {l' : List ℕ} → RanAtMost l n l' → n ≤ most → RanAtMost l most l'
-ran_fewer h few = record { events = h.events; few = omega (arith, h.few); image = h.image }

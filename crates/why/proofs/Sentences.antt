@@ -1,10 +1,9 @@
 -- A sentence: word by word, by what is said, and how long it is. Assumes nothing.
 use Prim.Native.Nat.{ℕ, ◌+◌, ◌≤◌}
-use mathlib.Core.{Bool.{Bool, true, false, cond}, List.{List, [], ◌++◌}, Logic.◌≢◌, Path.{◌≡◌, refl}}
+use mathlib.Core.{Bool.{Bool, true, false, cond}, List.{List, ◌++◌}, Path.{◌≡◌}}
 use native.Mathlib.Omega.{arith}
-use borrow.Author.Tests.{ne_eqb}
 use lib.{Dec.eqb, ListN.{length, length-append}}
-use Rattle.explanations.specs.Why.{Line, line, said_link, said_unsigned, said_unheld, said_untrusted, said_recovery, said_absent, said_invalid, said_disabled}
+use Rattle.explanations.specs.Why.{Line, said_link, said_unsigned, said_unheld, said_untrusted, said_recovery, said_absent, said_invalid, said_disabled}
 use Rattle.explanations.specs.Why.{said_past, said_unserved}
 use Rattle.stream.specs.Decimal.{most_digits, decimal}
 use Rattle.stream.proofs.{Texts.decimal_small, JoinedTexts.{Put, then}}
@@ -26,28 +25,6 @@ about_small before n behind = let h = decimal_small n in simp length-append (ome
 pub about_ends : (before : List ℕ) (n : ℕ) (behind : List ℕ) (at : ℕ) {r : ℕ} → r ≡ at + length (about before n behind)
     → r ≤ at + (length before + most_digits + length behind)
 about_ends before n behind at e = let h = about_small before n behind in omega arith
-
--- ---- a link
-
-pub link_first : (above n : ℕ) → above ≡ 0 → link_sentence above n ≡ about certificate n is_a_root
-unfolding link_sentence
-link_first above n e = rw e refl
-
-pub link_next : (above n : ℕ) → above ≢ 0 → link_sentence above n ≡ about certificate n is_verified_by ++ about certificate above ended
-unfolding link_sentence
-link_next above n e = rw (ne_eqb above 0 e) refl
-
--- ---- a number that says nothing, and one that gives a reason
-
-pub reason_none : (w n : ℕ) → w ≢ said_recovery → w ≢ said_absent → w ≢ said_invalid → w ≢ said_disabled → w ≢ said_past → w ≢ said_unserved
-    → reason_sentence w n ≡ []
-unfolding reason_sentence
-reason_none w n r a b c d e = rw (ne_eqb w 10 r, ne_eqb w 11 a, ne_eqb w 12 b, ne_eqb w 13 c, ne_eqb w 14 d, ne_eqb w 15 e) refl
-
-pub sentence_reason : (above w n : ℕ) → w ≢ said_link → w ≢ said_unsigned → w ≢ said_unheld → w ≢ said_untrusted
-    → sentence above (line w n) ≡ reason_sentence w n
-unfolding sentence
-sentence_reason above w n a b c d = rw (ne_eqb w 1 a, ne_eqb w 2 b, ne_eqb w 3 c, ne_eqb w 4 d) refl
 
 -- ---- how long
 

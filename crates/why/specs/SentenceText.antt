@@ -3,9 +3,10 @@ use Rattle.std.specs.Prelude.{ℕ, zero, suc, ◌+◌, ◌*◌}
 use mathlib.Core.{Bool.cond, List.{List, [], ◌∷◌, ◌++◌}}
 use lib.{Dec.eqb, ListN.length}
 use Rattle.octets.specs.Octets.{be8, be16, bytes}
+use Rattle.rules.specs.Step.{refused_at}
 use Rattle.explanations.specs.Why.{Line, line, said_link, said_unsigned, said_unheld, said_untrusted, said_recovery, said_absent, said_invalid, said_disabled}
 use Rattle.explanations.specs.Why.{said_past, said_unserved}
-use Rattle.reasons.specs.Lines.{line_size, most_lines, why_code, lines_of, why}
+use Rattle.reasons.specs.Lines.{line_size, most_lines, why_code, lines_of}
 use Rattle.stream.specs.{Decimal.{most_digits, decimal}, Refusal.image_refused}
 
 -- ---- words before a number
@@ -131,6 +132,6 @@ executable_unknown = bytes 13 0x65786563757461626c65_20_33_0a
 -- "Refusals: codes 1 and 3 as in 01"; else the explanation
 unfoldable pub answer_text : List ℕ → ℕ → List ℕ
 answer_text l n =
-    cond (eqb (why_code l n) 1) (image_refused (why l n).rule (why l n).offset)
+    cond (eqb (why_code l n) 1) (image_refused (refused_at l).rule (refused_at l).offset)
     (cond (eqb (why_code l n) 3) executable_unknown
     (page 0 (lines_of l n)))

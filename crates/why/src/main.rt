@@ -15,16 +15,18 @@ ghost use Rattle.why.specs.EventsRun.{RanAtMost};
 ghost use Rattle.why.specs.SentenceText.{about, link_sentence, reason_sentence, sentence, longest_sentence};
 ghost use Rattle.why.specs.SentenceText.{page, lines_said, longest_page, executable_unknown, answer_text};
 
+use octets::Number as _;
 use records::{Event, image};
 use stream::{STDERR, STDIN, STDOUT};
 
 // ---- a sentence
 
 // A number between its words put at a place: the place behind them.
+#[tactic(auto, using(stream::proofs::Texts::decimal_small))]
 fn put_about(out: &mut [u8], at: usize, before: &[u8], n: u16, behind: &[u8]) -> usize
     requires { at + length before.now + most_digits + length behind.now ≤ length out.old }
-    ensures out_after { out.new ≡ put out.old at (about before.now n behind.now) }
-    ensures value { result ≡ at + length (about before.now n behind.now) }
+    ensures { (out.new ≡ put out.old at (about before.now n behind.now))
+        × (result ≡ at + length (about before.now n behind.now)) }
 {
     stream::put_text(out, at, before);
     let numbered = stream::put_number(out, at + before.len(), n as u64);
@@ -33,6 +35,7 @@ fn put_about(out: &mut [u8], at: usize, before: &[u8], n: u16, behind: &[u8]) ->
 }
 
 // A link of a chain: the first is a root, and any other is verified by the one above it.
+#[tactic(auto, unfolding(crate::specs::SentenceText::link_sentence))]
 fn put_link(out: &mut [u8], at: usize, above: u16, id: u16) -> usize
     requires { at + longest_sentence ≤ length out.old }
     ensures { (out.new ≡ put out.old at (link_sentence above id)) × (result ≡ at + length (link_sentence above id)) }
@@ -44,7 +47,8 @@ fn put_link(out: &mut [u8], at: usize, above: u16, id: u16) -> usize
     put_about(out, verified, b"certificate ", above, b"\n")
 }
 
-// Why a record with the signing key is not good.
+// Why a record with the signing key is not good. Each number has its words: the match is their table, here and in `put_sentence`.
+#[tactic(auto, unfolding(crate::specs::SentenceText::reason_sentence))]
 fn put_reason(out: &mut [u8], at: usize, what: u8, id: u16) -> usize
     requires { at + longest_sentence ≤ length out.old }
     ensures { (out.new ≡ put out.old at (reason_sentence what id)) × (result ≡ at + length (reason_sentence what id)) }
@@ -67,6 +71,7 @@ fn put_reason(out: &mut [u8], at: usize, what: u8, id: u16) -> usize
 }
 
 // What a line says, below one with the id `above`: the place behind its sentence.
+#[tactic(auto, unfolding(crate::specs::SentenceText::sentence))]
 fn put_sentence(out: &mut [u8], at: usize, above: u16, what: u8, id: u16) -> usize
     requires { at + longest_sentence ≤ length out.old }
     ensures { (out.new ≡ put out.old at (sentence above (line what id))) × (result ≡ at + length (sentence above (line what id))) }
@@ -97,18 +102,16 @@ fn put_sentence(out: &mut [u8], at: usize, above: u16, what: u8, id: u16) -> usi
 // The sentences of the first n lines of a buffer, put at the start of another: how long they are.
 fn put_page(out: &mut [u8], lines: &[u8], n: usize) -> usize
     requires { (n * line_size ≤ length lines.now) × (n * longest_sentence ≤ length out.old) }
-    ensures out_after { out.new ≡ put out.old 0 (page 0 (lines_said lines.now n)) }
-    ensures value { result ≡ length (page 0 (lines_said lines.now n)) }
+    ensures { (out.new ≡ put out.old 0 (page 0 (lines_said lines.now n)))
+        × (result ≡ length (page 0 (lines_said lines.now n))) }
 {
     let mut at = 0;
-    let mut above: u16 = 0;
-    let mut i = 0;
-    while i < n {
-        let what = octets::read8(lines, i * 3);
-        let id = octets::read16(lines, i * 3 + 1);
+    let mut above = 0;
+    for i in 0..n {
+        let what = u8::read(lines, i * 3);
+        let id = u16::read(lines, i * 3 + 1);
         at = put_sentence(out, at, above, what, id);
         above = id;
-        i += 1;
     }
     at
 }
@@ -120,8 +123,9 @@ fn put_unknown(out: &mut [u8]) -> usize
     requires { length executable_unknown ≤ length out.old }
     ensures { (out.new ≡ put out.old 0 executable_unknown) × (result ≡ length executable_unknown) }
 {
-    stream::put_text(out, 0, b"executable 3\n");
-    13
+    let text = b"executable 3\n";
+    stream::put_text(out, 0, text);
+    text.len()
 }
 
 // All that is printed, put at the start of a buffer: how long it is. Any bytes.
@@ -130,23 +134,23 @@ fn put_answer(s: &[u8], id: u16, out: &mut [u8]) -> usize
     ensures { (out.new ≡ put out.old 0 (answer_text s.now id)) × (result ≡ length (answer_text s.now id)) }
 {
     let mut lines = [0u8; 192];
-    let told = reasons::explain(s, id, &mut lines);
-    if told.code == 1 {
-        return stream::put_refusal(out, told.rule, told.offset);
+    match reasons::explain(s, id, &mut lines) {
+        Ok(told) => put_page(out, &lines, told),
+        Err(refused) if refused.code == 1 => {
+            stream::put_refusal(out, refused.rule, refused.offset)
+        }
+        Err(_) => put_unknown(out),
     }
-    if told.code == 3 {
-        return put_unknown(out);
-    }
-    put_page(out, &lines, told.lines)
 }
 
 // Whether no executable has the id. Any bytes.
 fn is_unknown(s: &[u8], id: u16) -> bool
     ensures { result ≡ eqb (why_code s.now id) 3 }
 {
-    let mut none = [0u8; 0];
-    let told = reasons::explain(s, id, &mut none);
-    told.code == 3
+    match reasons::explain(s, id, &mut [0u8; 0]) {
+        Ok(_) => false,
+        Err(refused) => refused.code == 3,
+    }
 }
 
 fn complain(text: &[u8]) {
@@ -173,21 +177,18 @@ fn run_events(s: &mut [u8], v: &mut [u8], most: u64)
     requires v_len { length v.old ≡ event_size }
     ensures { RanAtMost s.old most s.new }
 {
-    let mut n: u64 = 0;
-    while n < most {
+    for n in 0..most {
         let got = io::read_full(STDIN, v);
         if got == 0 {
             return;
         }
         events::step_accepted(s, &v[..got]);
-        n += 1;
     }
 }
 
 // An image that is refused stays as it came.
 fn play(s: &mut [u8], most: u64) {
-    let fault = opening::open(s);
-    if fault.rule != 0 {
+    if opening::open(s).is_err() {
         return;
     }
     let mut record = [0u8; Event::SIZE];
@@ -209,51 +210,28 @@ fn explain(id: u16, events: u64) {
 
 // ---- a word of the command line
 
-// The number that it tells, or that it tells none.
-#[derive(Clone, Copy)]
-enum Number {
-    Is(u64),
-    Nothing,
-}
-
 // No number of 19 digits is too large for 64 bits.
 const MOST_PLACES: usize = 19;
 
-fn parse(word: &[u8]) -> Number
+// The number that it tells, if it tells one.
+fn parse(word: &[u8]) -> Option<u64>
     ensures { result ≡ number word.now }
 {
-    if word.len() == 0 {
-        return Number::Nothing;
+    if word.is_empty() || MOST_PLACES < word.len() {
+        return None;
     }
-    if MOST_PLACES < word.len() {
-        return Number::Nothing;
-    }
-    let mut n: u64 = 0;
-    let mut i = 0;
-    while i < word.len() {
-        let b = word[i];
-        if b < 48 {
-            return Number::Nothing;
+    let mut n = 0;
+    for b in word {
+        if !b.is_ascii_digit() {
+            return None;
         }
-        if 57 < b {
-            return Number::Nothing;
-        }
-        n = n * 10 + (b - 48) as u64;
-        i += 1;
+        n = n * 10 + u64::from(*b - b'0');
     }
-    Number::Is(n)
+    Some(n)
 }
 
-// Whether the word is -h or --help.
 fn asks_help(word: &[u8]) -> bool {
-    if word.len() == 2 {
-        return (word[0] == 45) & (word[1] == 104);
-    }
-    if word.len() != 6 {
-        return false;
-    }
-    let dashes = (word[0] == 45) & (word[1] == 45);
-    dashes & (word[2] == 104) & (word[3] == 101) & (word[4] == 108) & (word[5] == 112)
+    matches!(word, b"-h" | b"--help")
 }
 
 fn help() {
@@ -283,22 +261,18 @@ fn main(rt: HostRuntime) {
         complain(b"why: a word too many; usage: why ID [EVENTS] < FILE\n");
         return;
     }
-    let Number::Is(id) = parse(&first[..id_length]) else {
+    let Some(id) = parse(&first[..id_length]).and_then(|n| u16::try_from(n).ok()) else {
         complain(b"why: ID is a number from 0 to 65535\n");
         return;
     };
-    if 65535 < id {
-        complain(b"why: ID is a number from 0 to 65535\n");
-        return;
-    }
     let mut second = [0u8; 32];
     let Some(events_length) = stream::word(&rt, 2, &mut second) else {
-        explain(id as u16, 0);
+        explain(id, 0);
         return;
     };
-    let Number::Is(events) = parse(&second[..events_length]) else {
+    let Some(events) = parse(&second[..events_length]) else {
         complain(b"why: EVENTS is a number of at most 19 digits\n");
         return;
     };
-    explain(id as u16, events);
+    explain(id, events);
 }

@@ -1,26 +1,20 @@
-use borrow.Author.Rules.{rules}
-use native.Mathlib.Omega.{arith}
-use mathlib.Core.Path.{refl}
-use Rattle.chain.proofs.FirstHolder.{holder_start, holder_here, holder_next, holder_none}
+use Rattle.std.proofs.Common.{rules, ◌≡◌}
+use Rattle.records.specs.Phone.{decode, no_certificate}
+use Rattle.sweep.specs.FirstPassing.{found}
+use Rattle.sweep.proofs.FirstFound.{first_found}
+use Rattle.chain.proofs.FirstHolder.{of_key, holder_in, holder_here, holder_none}
+use Rattle.chain.proofs.domain_of.Goals.{After-first}
 use Rattle.chain.proofs.domain_of.Goals as goal
 
-pub loop-j-init : goal.loop-j-init
-loop-j-init c = (search rules, search rules, holder_start _ _ 0 refl)
+searched : (c : After-first) → c.first.result ≡ found (of_key (decode c.args.s.now).trust c.args.key) (decode c.args.s.now).trust.certificates
+searched c = first_found _ _ no_certificate _ c.certificate_slots-slots.ensures.0 c.first.ensures (λ i b h p. search rules)
 
-pub returns-then-c-key : goal.returns-then-c-key
-returns-then-c-key c =
-    let v = c.loop-j in
-    holder_here _ _ v.j v.invariant.2 (omega arith) _ c.certificate-c.ensures c.if-c-key.true
+pub certificate-requires-clause-i_in_bounds : goal.certificate-requires-clause-i_in_bounds
+certificate-requires-clause-i_in_bounds c =
+    holder_in (decode c.args.s.now).trust _ (searched (goal.at.certificate-requires-clause-i_in_bounds c).After-first) c.in-Some.is
 
-pub loop-j-preserved : goal.loop-j-preserved
-loop-j-preserved c =
-    let v = c.loop-j in (
-      search rules,
-      search rules,
-      holder_next _ _ v.j v.invariant.2 (omega arith) _ c.certificate-c.ensures c.if-c-key.false,
-    )
+pub returns-in-Some : goal.returns-in-Some
+returns-in-Some c = holder_here _ _ (searched (goal.at.returns-in-Some c).After-first) c.in-Some.is c.certificate.ensures
 
-pub returns : goal.returns
-returns c =
-    let v = c.loop-j in
-    holder_none _ _ v.j v.invariant.2 (omega arith)
+pub returns-in-None : goal.returns-in-None
+returns-in-None c = holder_none _ _ (searched (goal.at.returns-in-None c).After-first) c.in-None.is

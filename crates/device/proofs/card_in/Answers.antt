@@ -1,25 +1,19 @@
-use mathlib.Core.{Path.{sym, ◌∙◌}}
-use Rattle.handling.proofs.Handles.{handled_refused}
+use mathlib.Core.{Bool.not, Path.ap}
+use Rattle.handling.proofs.Handles.{tried_passed}
 use Rattle.device.proofs.DeviceDone.{put_in, put_in_only, settle_asks, settle_ends}
-use mathlib.Core.Bool.{not}
-use mathlib.Core.Path.{ap}
 use Rattle.device.proofs.card_in.Goals as goal
 
-pub returns-then-code-ne0 : goal.returns-then-code-ne0
-returns-then-code-ne0 c = search handled_refused
+pub returns-in_err-card_in : goal.returns-in_err-card_in
+returns-in_err-card_in c = tried_passed _ _ c.in_err-card_in.ensures c.from_residual.ensures.1
 
 pub returns-then-not-has_marked_operator : goal.returns-then-not-has_marked_operator
 returns-then-not-has_marked_operator c =
-    put_in_only c.args.e c.requires.accepted_image (sym c.card_in-code.ensures ∙ c.if-code-ne0.false) c.has_marked_operator.ensures
-    (ap not c.if-not-has_marked_operator.true) c.done.ensures
-    c.card_only.ensures
+    put_in_only c.args.e c.requires.accepted_image c.in_ok-card_in.ensures c.has_marked_operator.ensures (ap not c.if-not-has_marked_operator.true)
+    c.done.ensures c.card_only.ensures
 
-pub settle-requires-clause-framed : goal.settle-requires-clause-framed
-settle-requires-clause-framed c = let asks = settle_asks (put_in c.args.e c.requires.accepted_image c.card_in.ensures) in asks.0
-
-pub settle-requires-clause-domains_known : goal.settle-requires-clause-domains_known
-settle-requires-clause-domains_known c = let asks = settle_asks (put_in c.args.e c.requires.accepted_image c.card_in.ensures) in asks.1.0
+pub settle-requires : goal.settle-requires
+settle-requires c =
+    let asks = settle_asks (put_in c.args.e c.requires.accepted_image c.card_in-2.ensures) in record { framed = asks.0; domains_known = asks.1.0 }
 
 pub returns : goal.returns
-returns c =
-    settle_ends (put_in c.args.e c.requires.accepted_image c.card_in.ensures) (sym c.card_in-code.ensures ∙ c.if-code-ne0.false) c.settle.ensures
+returns c = settle_ends (put_in c.args.e c.requires.accepted_image c.card_in-2.ensures) c.in_ok-card_in.ensures c.settle.ensures

@@ -1,17 +1,13 @@
-use mathlib.Core.{Path.{sym, ◌∙◌}}
-use Rattle.handling.proofs.Handles.{handled_refused}
+use Rattle.handling.proofs.Handles.{tried_passed}
 use Rattle.device.proofs.DeviceDone.{taken_out, settle_asks, settle_ends}
 use Rattle.device.proofs.card_out.Goals as goal
 
-pub returns-then-code-ne0 : goal.returns-then-code-ne0
-returns-then-code-ne0 c = search handled_refused
+pub returns-in_err-card_out : goal.returns-in_err-card_out
+returns-in_err-card_out c = tried_passed _ _ c.in_err-card_out.ensures c.from_residual.ensures.1
 
-pub settle-requires-clause-framed : goal.settle-requires-clause-framed
-settle-requires-clause-framed c = let asks = settle_asks (taken_out c.args.e c.requires.accepted_image c.card_out.ensures) in asks.0
-
-pub settle-requires-clause-domains_known : goal.settle-requires-clause-domains_known
-settle-requires-clause-domains_known c = let asks = settle_asks (taken_out c.args.e c.requires.accepted_image c.card_out.ensures) in asks.1.0
+pub settle-requires : goal.settle-requires
+settle-requires c =
+    let asks = settle_asks (taken_out c.args.e c.requires.accepted_image c.card_out-2.ensures) in record { framed = asks.0; domains_known = asks.1.0 }
 
 pub returns : goal.returns
-returns c =
-    settle_ends (taken_out c.args.e c.requires.accepted_image c.card_out.ensures) (sym c.card_out-code.ensures ∙ c.if-code-ne0.false) c.settle.ensures
+returns c = settle_ends (taken_out c.args.e c.requires.accepted_image c.card_out-2.ensures) c.in_ok-card_out.ensures c.settle.ensures

@@ -21,43 +21,31 @@ pub loop-i-init : goal.loop-i-init
 unfolding heading
 loop-i-init c =
     let first = c.put_heading-headed.ensures in
-    let a = c.args in
-    let small = opened_small a.opened in (
+    let opened = c.put_opened-at.ensures in
+    let a = c.args in (
       search rules,
-      omega (arith, first.1, c.put_opened-at.ensures.value),
-      omega arith,
-      begun a.opened a.events.now a.told.now a.got.now first (c.put_opened-at.ensures.got_after, c.put_opened-at.ensures.value),
+      omega (arith, opened_small a.opened, first.1, opened.1),
+      begun a.opened a.events.now a.told.now a.got.now first opened,
     )
 
 pub returns-then-got-at-clause-got_after : goal.returns-then-got-at-clause-got_after
 returns-then-got-at-clause-got_after c =
     let v = c.loop-i in
-    let a = c.args in sym (no_room a.opened a.events.now a.told.now v.got v.at v.i v.invariant.1 (search rules) (omega arith)) ∙ v.invariant.3
-
-pub returns-then-got-at-clause-upper_bound : goal.returns-then-got-at-clause-upper_bound
-returns-then-got-at-clause-upper_bound c =
-    let v = c.loop-i in
-    let a = c.args in v.invariant.1
+    let a = c.args in sym (no_room a.opened a.events.now a.told.now v.got v.at v.i v.invariant.1 (search rules) (omega arith)) ∙ v.invariant.2
 
 pub loop-i-preserved : goal.loop-i-preserved
 loop-i-preserved c =
     let v = c.loop-i in
     let a = c.args in
+    let next = c.put_told-at.ensures in
     let same = ap (λ (k : ℕ). told_line a.opened (v.i + 1) k (get_or a.told.now v.i 0)) (sym c.kind_of.ensures) in
-    let put = said v.got v.at same (c.put_told-at.ensures.got_after, c.put_told-at.ensures.value) in
-    let small = told_small a.opened (v.i + 1) c.kind_of.result (get_or a.told.now v.i 0) in (
+    let put = said v.got v.at same next in (
       search rules,
-      omega (arith, c.put_told-at.ensures.value),
-      omega arith,
-      one_more a.opened a.events.now a.told.now v.got v.at v.i v.invariant.1 (search rules) (omega arith) put ∙ v.invariant.3,
+      omega (arith, told_small a.opened (v.i + 1) c.kind_of.result (get_or a.told.now v.i 0), next.1),
+      one_more a.opened a.events.now a.told.now v.got v.at v.i v.invariant.1 (search rules) (omega arith) put ∙ v.invariant.2,
     )
 
 pub returns-clause-got_after : goal.returns-clause-got_after
 returns-clause-got_after c =
     let v = c.loop-i in
-    let a = c.args in sym (all_told a.opened a.events.now a.told.now v.got v.at v.i v.invariant.1 (search rules)) ∙ v.invariant.3
-
-pub returns-clause-upper_bound : goal.returns-clause-upper_bound
-returns-clause-upper_bound c =
-    let v = c.loop-i in
-    let a = c.args in v.invariant.1
+    let a = c.args in sym (all_told a.opened a.events.now a.told.now v.got v.at v.i v.invariant.1 (search rules)) ∙ v.invariant.2

@@ -1,20 +1,17 @@
-use Rattle.handling.proofs.Handles.{plan_handled}
-use Rattle.executables.proofs.{ActsOnExecutable.{Acts, acts_named}, ExecutablesDone.request_done}
+use Rattle.handling.proofs.Handles.{tried_passed}
+use Rattle.executables.proofs.{ActsOnExecutable.{Acts, acts_named}, ExecutablesDone.{request_done}}
+use Rattle.executables.proofs.request.Goals.{In_ok-slot}
 use Rattle.executables.proofs.request.Goals as goal
 
-pub executable-x-requires-clause-framed : goal.executable-x-requires-clause-framed
-executable-x-requires-clause-framed c =
-    let a : let a = c.args in
-    Acts 15 a.e.id a.s.now a.e c.in-On.slot = acts_named 15 _ c.args.e c.requires.accepted_image tt c.request.ensures c.in-On.is in a.accepted.framed
+acts : (c : In_ok-slot) → let a = c.args in Acts 15 a.e.id a.s.now a.e c.in_ok-slot.slot
+acts c = acts_named 15 _ c.args.e c.requires.accepted_image tt c.in_ok-slot.ensures
 
-pub executable-x-requires-clause-i_in_bounds : goal.executable-x-requires-clause-i_in_bounds
-executable-x-requires-clause-i_in_bounds c =
-    let a : let a = c.args in
-    Acts 15 a.e.id a.s.now a.e c.in-On.slot = acts_named 15 _ c.args.e c.requires.accepted_image tt c.request.ensures c.in-On.is in a.within
+pub returns-in_err-slot : goal.returns-in_err-slot
+returns-in_err-slot c = tried_passed _ _ c.in_err-slot.ensures c.from_residual.ensures.1
 
-pub returns-in-Refused : goal.returns-in-Refused
-returns-in-Refused c = search plan_handled
+pub executable-x-requires : goal.executable-x-requires
+executable-x-requires c =
+    let a = acts (goal.at.executable-x-requires c).In_ok-slot in record { framed = a.accepted.framed; i_in_bounds = a.within }
 
-pub returns-in-On : goal.returns-in-On
-returns-in-On c = request_done
-    (acts_named 15 _ c.args.e c.requires.accepted_image tt c.request.ensures c.in-On.is) c.executable-x.ensures c.links_of.ensures c.done.ensures
+pub returns : goal.returns
+returns c = request_done (acts (goal.at.returns c).In_ok-slot) c.executable-x.ensures c.links_of.ensures c.done.ensures

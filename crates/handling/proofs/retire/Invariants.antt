@@ -1,10 +1,6 @@
-use Prim.Native.Nat.{◌-◌}
 use Rattle.handling.specs.Retiring.{retire}
 use Rattle.laws.proofs.{Tables.certificates, SlotSweeps.{Sweeping}}
 use Rattle.handling.proofs.retire.Given as goal
 
 abbrev pub invariant-loop-i : goal.invariant-loop-i
-invariant-loop-i l = Sweeping certificates (retire l.every l.operator) l.initial.s l.s l.slots l.i
-
-abbrev pub decreases-loop-i : goal.decreases-loop-i
-decreases-loop-i l = l.slots - l.i
+invariant-loop-i l = Sweeping certificates (retire l.every l.operator) l.initial.s l.s l.i-end l.i

@@ -1,35 +1,26 @@
-use borrow.{Author.Rules.rules, Author.Tests.{eq-eqb, ne_eqb}}
-use native.Mathlib.Omega.{arith}
-use mathlib.Core.{Path.{refl, sym, ap, ◌∙◌}}
-use Rattle.records.specs.{Phone.{decode, no_card}}
-use Rattle.rules.specs.{ImageRules.operator_of}
-use Rattle.laws.proofs.Loops.{find_here, find_next, find_end}
-use Rattle.lookup.proofs.operator_of.Invariants.{numbered}
+use Rattle.std.proofs.Common.{rules, ℕ, ◌≡◌, Bool, eqb}
+use mathlib.Core.{Path.{sym, ap}}
+use Rattle.records.specs.{declared.Card.Card, Phone.{no_card, decode}}
+use Rattle.rules.specs.ImageRules.{operator_of}
+use Rattle.sweep.specs.FirstPassing.{found}
+use Rattle.sweep.proofs.FirstFound.{first_found}
+use Rattle.lookup.proofs.FoundSlot.{at_within, at_named, nowhere_none, none_named}
+use Rattle.lookup.proofs.operator_of.Goals.{After-first}
 use Rattle.lookup.proofs.operator_of.Goals as goal
 
-pub loop-i-init : goal.loop-i-init
-loop-i-init c = (search rules, search rules, refl)
+abbrev numbered : ℕ → Card → Bool
+numbered n k = eqb k.number n
 
-pub returns-then-k-n : goal.returns-then-k-n
+searched : (c : After-first) → c.first.result ≡ found (numbered c.args.n) (decode c.args.s.now).cards
+searched c = first_found _ _ no_card _ c.card_count.ensures.0 c.first.ensures (λ i b h p. search rules)
+
+pub card-requires-clause-i_in_bounds : goal.card-requires-clause-i_in_bounds
+card-requires-clause-i_in_bounds c = at_within _ _ (searched (goal.at.card-requires-clause-i_in_bounds c).After-first) c.in-Some.is
+
+pub returns-in-Some : goal.returns-in-Some
 unfolding operator_of
-returns-then-k-n c =
-    let a = c.args in
-    let f = numbered a.n in
-    let e = c.card-k.ensures in
-    let here = find_here no_card (decode a.s.now).cards c.loop-i.i f (omega arith) (ap f (sym e) ∙ eq-eqb _ _ c.if-k-n.true) in
-    ap (λ k. k.operator) (e ∙ sym here ∙ c.loop-i.invariant.2)
+returns-in-Some c = ap (λ k. k.operator) (at_named _ _ (searched (goal.at.returns-in-Some c).After-first) c.in-Some.is no_card c.card.ensures)
 
-pub loop-i-preserved : goal.loop-i-preserved
-loop-i-preserved c =
-    let a = c.args in
-    let f = numbered a.n in
-    let e = c.card-k.ensures in
-    let next = find_next no_card (decode a.s.now).cards c.loop-i.i f (omega arith) (ap f (sym e) ∙ ne_eqb _ _ c.if-k-n.false) in
-    (search rules, search rules, sym next ∙ c.loop-i.invariant.2)
-
-pub returns : goal.returns
+pub returns-in-None : goal.returns-in-None
 unfolding operator_of
-returns c =
-    let a = c.args in
-    let none = find_end no_card (decode a.s.now).cards c.loop-i.i (numbered a.n) (omega arith) in
-    ap (λ k. k.operator) (sym none ∙ c.loop-i.invariant.2)
+returns-in-None c = ap (λ k. k.operator) (sym (none_named _ no_card _ (nowhere_none _ _ (searched (goal.at.returns-in-None c).After-first) c.in-None.is)))

@@ -1,5 +1,7 @@
-use Rattle.opening.proofs.ByParts.{i4_told}
+use Rattle.std.proofs.Common.{rules}
+use Rattle.rules.specs.declared.Site.{Site}
+use Rattle.opening.proofs.ByParts.{told_at}
 use Rattle.opening.proofs.i4.Goals as goal
 
 pub returns : goal.returns
-returns c = search i4_told
+returns c = told_at _ _ 4 Site.Certificate _ c.i4.ensures c.map.ensures.cases (λ i site p. search rules) c.broken.ensures

@@ -1,5 +1,7 @@
-use Rattle.opening.proofs.ByParts.{i7_told}
+use Rattle.std.proofs.Common.{rules}
+use Rattle.rules.specs.declared.Site.{Site}
+use Rattle.opening.proofs.ByParts.{told_at}
 use Rattle.opening.proofs.i7.Goals as goal
 
 pub returns : goal.returns
-returns c = search i7_told
+returns c = told_at _ _ 7 Site.Executable _ c.i7.ensures c.map.ensures.cases (λ i site p. search rules) c.broken.ensures

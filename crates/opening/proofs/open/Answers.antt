@@ -1,18 +1,13 @@
+use Rattle.std.proofs.Common.{rules}
 use native.Mathlib.Omega.{arith}
-use Rattle.opening.proofs.Opens.{breaks_i1, is_framed, frames}
-use mathlib.Core.Bool.{not}
-use mathlib.Core.Path.{ap}
+use mathlib.Core.Path.{sym, ◌∙◌}
+use Rattle.opening.proofs.Opens.{breaks_i1}
+use Rattle.records.proofs.RoundTrip.{frame}
 use Rattle.opening.proofs.open.Goals as goal
 
 pub returns-then-not-is_framed : goal.returns-then-not-is_framed
-returns-then-not-is_framed c = search breaks_i1
+returns-then-not-is_framed c = search (rules, breaks_i1)
 
-pub next_fault-requires-clause-framed : goal.next_fault-requires-clause-framed
-next_fault-requires-clause-framed c =
-    let bytes = c.shared_slice_known-1.given in frames _ c.is_framed.ensures (λ i. omega (arith, bytes i)) (ap not c.if-not-is_framed.false)
-
-pub next_fault-requires-clause-s_value : goal.next_fault-requires-clause-s_value
-next_fault-requires-clause-s_value c = let bytes = c.shared_slice_known-1.given in search is_framed
-
-pub returns : goal.returns
-returns c = c.next_fault.ensures
+pub open_framed-requires-clause-framed : goal.open_framed-requires-clause-framed
+open_framed-requires-clause-framed c =
+    let bytes = c.type_inv.s in frame _ (λ i. omega (arith, bytes i)) (sym c.is_framed.ensures ∙ c.if-not-is_framed.false)

@@ -1,4 +1,4 @@
-use Rattle.opening.proofs.Offsets.{header_stands, certificate_stands, card_headed, card_stands, executable_headed, executable_stands, row_headed}
+use Rattle.opening.proofs.Offsets.{card_headed, card_stands, executable_headed, executable_stands, row_headed}
 use Rattle.opening.proofs.Offsets.{row_stands}
 use Rattle.opening.proofs.span_of.Goals as goal
 
@@ -10,12 +10,6 @@ executables_at-requires c = search executable_headed
 
 pub table_at-requires : goal.table_at-requires
 table_at-requires c = search row_headed
-
-pub returns-in-Header : goal.returns-in-Header
-returns-in-Header c = search header_stands
-
-pub returns-in-Certificate : goal.returns-in-Certificate
-returns-in-Certificate c = search certificate_stands
 
 pub returns-in-Card : goal.returns-in-Card
 returns-in-Card c = search card_stands

@@ -1,14 +1,10 @@
-use Prim.Native.Nat.{◌≤◌}
 use mathlib.Core.Path.{◌≡◌}
 use lib.ListN.{length}
 use Rattle.records.specs.Phone.{decode}
 use Rattle.reasons.specs.Lines.{climbed_lines, with_lines}
 use Rattle.reasons.proofs.tell_chain.Given as goal
 
-abbrev pub invariant-loop-left : goal.invariant-loop-left
-invariant-loop-left l = (l.left ≤ l.n) × (length l.lines ≡ length l.initial.lines)
-    × (with_lines l.lines (climbed_lines (decode l.s).trust l.domain l.left l.wanted) ≡ with_lines l.initial.lines
+abbrev pub invariant-loop-i : goal.invariant-loop-i
+invariant-loop-i l = (length l.lines ≡ length l.initial.lines)
+    × (with_lines l.lines (climbed_lines (decode l.s).trust l.domain l.i l.wanted) ≡ with_lines l.initial.lines
     (climbed_lines (decode l.s).trust l.domain l.n l.key))
-
-abbrev pub decreases-loop-left : goal.decreases-loop-left
-decreases-loop-left l = l.left

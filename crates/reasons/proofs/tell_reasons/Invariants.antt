@@ -1,13 +1,7 @@
-use Prim.Native.Nat.{◌≤◌, ◌-◌}
-use mathlib.Core.Path.{◌≡◌}
-use lib.ListN.{length}
 use Rattle.records.specs.Phone.{decode}
 use Rattle.reasons.proofs.HolderLines.{Untold, rest_of}
 use Rattle.reasons.proofs.tell_reasons.Given as goal
 
 abbrev pub invariant-loop-i : goal.invariant-loop-i
-invariant-loop-i l = (l.i ≤ l.slots) × (l.slots ≡ length (decode l.s).trust.certificates) × (l.slots ≤ 64)
-    × Untold (decode l.s).trust l.key l.initial.lines l.lines l.i (rest_of (decode l.s).trust l.key l.slots l.above l.i)
-
-abbrev pub decreases-loop-i : goal.decreases-loop-i
-decreases-loop-i l = l.slots - l.i
+invariant-loop-i l =
+    Untold (decode l.s).trust l.key l.initial.lines l.lines l.i (rest_of (decode l.s).trust l.key l.slots l.above l.i)

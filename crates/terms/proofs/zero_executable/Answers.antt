@@ -1,7 +1,8 @@
-use native.Mathlib.Nat.{add_assoc, add-zero}
-use Rattle.rules.specs.{ImageRules.zero_executable, Words.all_zero}
+use mathlib.Core.{Bool.and-true, Path.{◌∙◌}}
+use Rattle.rules.specs.{ImageRules.zero_executable, Words.all}
+use Rattle.terms.proofs.Listed.{all_zero_is}
 use Rattle.terms.proofs.zero_executable.Goals as goal
 
 pub returns : goal.returns
-unfolding zero_executable all_zero
-returns c = simp (add_assoc, add-zero)
+unfolding zero_executable all
+returns c = c.eq.ensures ∙ (simp and-true) ∙ all_zero_is _

@@ -1,11 +1,7 @@
-use Prim.Native.Nat.{◌≤◌, ◌-◌}
 use mathlib.Core.Path.{◌≡◌}
 use lib.ListN.{drop}
-use Rattle.timeline.specs.Timeline.{timed_count, timed, in_time}
+use Rattle.timeline.specs.Timeline.{timed, in_time}
 use Rattle.timeline.proofs.in_time.Given as goal
 
 abbrev pub invariant-loop-i : goal.invariant-loop-i
-invariant-loop-i l = (l.i ≤ l.n) × (l.n ≡ timed_count l.t) × (in_time l.before (drop l.i (timed l.t)) ≡ in_time l.clock (timed l.t))
-
-abbrev pub decreases-loop-i : goal.decreases-loop-i
-decreases-loop-i l = l.n - l.i
+invariant-loop-i l = in_time l.before (drop l.i (timed l.t)) ≡ in_time l.clock (timed l.t)

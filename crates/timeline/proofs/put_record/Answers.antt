@@ -1,7 +1,7 @@
 use native.Mathlib.Omega.{arith}
 use borrow.Author.Rules.{rules}
 use Rattle.timeline.specs.Timeline.{timed_at}
-use Rattle.timeline.proofs.{Framed.{framed_few, event_within}, EventsPlaced.{event_part, placed_one, placed_two}}
+use Rattle.timeline.proofs.{Framed.{framed_few, event_within}, EventsPlaced.{event_part, placed_two}}
 use Rattle.timeline.proofs.put_record.Goals as goal
 
 pub overflow_mul-at : goal.overflow_mul-at
@@ -22,9 +22,6 @@ overflow_add-at-then-clock-now c = omega (arith, framed_few)
 pub slice_bounds-put_event-end : goal.slice_bounds-put_event-end
 slice_bounds-put_event-end c = search (rules, event_within)
 
-pub overflow_add-result : goal.overflow_add-result
-overflow_add-result c = omega (arith, framed_few)
-
 pub returns-then-clock-now : goal.returns-then-clock-now
 returns-then-clock-now c =
     let a = c.args in
@@ -36,12 +33,3 @@ overflow_add-at-3 c = omega (arith, framed_few)
 
 pub slice_bounds-put_event-end-2 : goal.slice_bounds-put_event-end-2
 slice_bounds-put_event-end-2 c = search (rules, event_within)
-
-pub overflow_add-result-2 : goal.overflow_add-result-2
-overflow_add-result-2 c = omega (arith, framed_few)
-
-pub returns : goal.returns
-returns c =
-    let a = c.args in
-    placed_one a.events.now _ _ (timed_at a.t.now a.i) (event_part a.t.now a.i) c.second-now.ensures (omega arith)
-    c.put_event-2.ensures

@@ -8,20 +8,20 @@ overflow_mul-at c = omega (arith, framed_few)
 pub overflow_add-at : goal.overflow_add-at
 overflow_add-at c = omega (arith, framed_few)
 
-pub read32-requires : goal.read32-requires
-read32-requires c = omega (arith, framed_whole)
+pub read-requires : goal.read-requires
+read-requires c = omega (arith, framed_whole)
 
 pub overflow_add-at-2 : goal.overflow_add-at-2
 overflow_add-at-2 c = omega (arith, framed_few)
 
-pub read32-requires-2 : goal.read32-requires-2
-read32-requires-2 c = omega (arith, framed_whole)
+pub read-requires-2 : goal.read-requires-2
+read-requires-2 c = omega (arith, framed_whole)
 
 pub overflow_add-at-3 : goal.overflow_add-at-3
 overflow_add-at-3 c = omega (arith, framed_few)
 
-pub read8-requires : goal.read8-requires
-read8-requires c = omega (arith, framed_whole)
+pub read-requires-3 : goal.read-requires-3
+read-requires-3 c = omega (arith, framed_whole)
 
 pub returns : goal.returns
-returns c = fits_by _ _ _ c.read32.ensures c.read32-2.ensures c.read8.ensures
+returns c = fits_by _ _ _ c.read.ensures c.read-2.ensures c.read-3.ensures

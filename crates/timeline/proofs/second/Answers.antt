@@ -9,8 +9,8 @@ overflow_mul-i c = omega (arith, framed_few)
 pub overflow_add-i : goal.overflow_add-i
 overflow_add-i c = omega (arith, framed_few)
 
-pub read32-requires : goal.read32-requires
-read32-requires c = omega (arith, framed_whole)
+pub read-requires : goal.read-requires
+read-requires c = omega (arith, framed_whole)
 
 pub returns : goal.returns
-returns c = c.read32.ensures ∙ second_there _ _
+returns c = c.read.ensures ∙ second_there _ _

@@ -1,54 +1,31 @@
-use Prim.Native.Nat.{◌-◌}
-use mathlib.Core.Path.{sym, ◌∙◌}
-use native.Mathlib.Omega.{arith}
-use lib.ListN.{get_or}
-use Rattle.why.proofs.Numbers.{number_none, number_long, number_read, number_low, number_high, number_more, number_ends, few_places, place_more}
+use Rattle.std.proofs.Common.{arith, rules, drop-cons, add-one}
+use Rattle.std.proofs.lemmas.Grind.{common_steps}
+use Rattle.why.specs.Number.{number_from, number}
+use Rattle.why.proofs.Numbers.{few_places, place_more}
 use Rattle.why.proofs.parse.Goals as goal
 
-pub returns-then-word-eq0 : goal.returns-then-word-eq0
-returns-then-word-eq0 c = number_none c.args.word.now (omega arith)
+pub returns-then-is_empty : goal.returns-then-is_empty
+unfolding number
+returns-then-is_empty c = grind (arith, common_steps)
 
-pub returns-then-word-gt-MOST_PLACES : goal.returns-then-word-gt-MOST_PLACES
-returns-then-word-gt-MOST_PLACES c = number_long c.args.word.now (omega arith)
+pub loop-b-init : goal.loop-b-init
+unfolding number
+loop-b-init c = grind (arith, common_steps)
 
-pub loop-i-init : goal.loop-i-init
-loop-i-init c = (omega arith, omega arith, omega arith, number_read c.args.word.now (omega arith) (omega arith))
-
-pub returns-then-b-lt48 : goal.returns-then-b-lt48
-returns-then-b-lt48 c =
-    let v = c.loop-i in
-    let a = c.args in
-    sym (number_low v.n a.word.now v.i (omega arith) (omega arith)) ∙ v.invariant.3
-
-pub returns-then-b-gt57 : goal.returns-then-b-gt57
-returns-then-b-gt57 c =
-    let v = c.loop-i in
-    let a = c.args in
-    sym (number_high v.n a.word.now v.i (omega arith) (omega arith)) ∙ v.invariant.3
+pub returns-then-not-is_ascii_digit : goal.returns-then-not-is_ascii_digit
+unfolding number_from
+returns-then-not-is_ascii_digit c = grind (arith, common_steps, drop-cons)
 
 pub overflow_mul-n : goal.overflow_mul-n
-overflow_mul-n c =
-    let v = c.loop-i in
-    omega (arith, few_places v.n v.i v.invariant.2 (omega arith))
+overflow_mul-n c = omega (arith, few_places c.loop-b.n c.loop-b.b-index c.loop-b.invariant.1 (omega arith))
 
 pub overflow_add-n : goal.overflow_add-n
-overflow_add-n c =
-    let v = c.loop-i in
-    omega (arith, few_places v.n v.i v.invariant.2 (omega arith))
+overflow_add-n c = omega (arith, few_places c.loop-b.n c.loop-b.b-index c.loop-b.invariant.1 (omega arith))
 
-pub loop-i-preserved : goal.loop-i-preserved
-loop-i-preserved c =
-    let v = c.loop-i in
-    let a = c.args in
-    let b = get_or a.word.now v.i 0 in (
-      omega arith,
-      omega arith,
-      place_more v.n v.i (b - 48) v.invariant.2 (omega arith),
-      sym (number_more v.n a.word.now v.i (omega arith) (omega arith) (omega arith)) ∙ v.invariant.3,
-    )
+pub loop-b-preserved : goal.loop-b-preserved
+unfolding number_from
+loop-b-preserved c = (omega arith, place_more _ _ _ c.loop-b.invariant.1 (search rules), grind (arith, common_steps, drop-cons, add-one))
 
 pub returns : goal.returns
-returns c =
-    let v = c.loop-i in
-    let a = c.args in
-    sym (number_ends v.n a.word.now v.i (omega arith)) ∙ v.invariant.3
+unfolding number_from
+returns c = grind (arith, common_steps)

@@ -10,29 +10,22 @@ use Rattle.why.proofs.put_page.Goals as goal
 
 pub loop-i-init : goal.loop-i-init
 unfolding lines_said
-loop-i-init c = let a = c.args in (omega arith, refl, omega arith, page_none a.out.now a.lines.now, refl)
+loop-i-init c = let a = c.args in (omega arith, page_none a.out.now a.lines.now, refl)
 
 pub loop-i-preserved : goal.loop-i-preserved
 loop-i-preserved c =
     let v = c.loop-i in
     let a = c.args in
-    let small = sentence_small v.above (line c.read8-what.result c.read16-id.result) in
-    let next = page_next a.out.now a.lines.now v.i v.invariant.3 v.invariant.4 c.read8-what.ensures c.read16-id.ensures
+    let small = sentence_small v.above (line c.read-what.result c.read-id.result) in
+    let next = page_next a.out.now a.lines.now v.i v.invariant.1 v.invariant.2 c.read-what.ensures c.read-id.ensures
     c.put_sentence-at.ensures in
-    (omega arith, omega arith, omega (arith, small, c.put_sentence-at.ensures.1), next.0, next.1)
+    (omega (arith, small, c.put_sentence-at.ensures.1), next.0, next.1)
 
-pub returns-clause-out_after : goal.returns-clause-out_after
-returns-clause-out_after c =
+pub returns : goal.returns
+returns c =
     let v = c.loop-i in
     let a = c.args in
-    let all : v.i ≡ a.n = omega arith in let all = subst (λ (k : ℕ). (v.out ≡ put a.out.now 0 (page 0 (lines_said a.lines.now k))) ×
-    (v.at ≡ length (page 0 (lines_said a.lines.now k)))) all
-    (v.invariant.3.0, omega (arith, v.invariant.3.1)) in all.0
-
-pub returns-clause-value : goal.returns-clause-value
-returns-clause-value c =
-    let v = c.loop-i in
-    let a = c.args in
-    let all : v.i ≡ a.n = omega arith in let all = subst (λ (k : ℕ). (v.out ≡ put a.out.now 0 (page 0 (lines_said a.lines.now k))) ×
-    (v.at ≡ length (page 0 (lines_said a.lines.now k)))) all
-    (v.invariant.3.0, omega (arith, v.invariant.3.1)) in all.1
+    let all : v.i ≡ a.n = omega arith in
+    let told = v.invariant.1 in
+    subst (λ (k : ℕ). (v.out ≡ put a.out.now 0 (page 0 (lines_said a.lines.now k))) × (v.at ≡ length (page 0 (lines_said a.lines.now k)))) all
+    (told.0, omega (arith, told.1))

@@ -1,6 +1,5 @@
-use Prim.Native.Nat.{◌*◌, ◌-◌, ◌≤◌}
+use Prim.Native.Nat.{◌*◌, ◌≤◌}
 use mathlib.Core.Path.{◌≡◌}
-use lib.ListN.{length}
 use Rattle.stream.proofs.JoinedTexts.{Put}
 use Rattle.why.specs.SentenceText.{longest_sentence, page, lines_said}
 use Rattle.why.proofs.{Pages.{last_id}}
@@ -8,8 +7,5 @@ use Rattle.why.proofs.put_page.Given as goal
 
 -- the page of the first i lines stands, and the id above the next is that of the last of them
 abbrev pub invariant-loop-i : goal.invariant-loop-i
-invariant-loop-i l = (l.i ≤ l.n) × (length l.out ≡ length l.initial.out) × (l.at ≤ l.i * longest_sentence)
+invariant-loop-i l = (l.at ≤ l.i * longest_sentence)
     × Put l.initial.out 0 (page 0 (lines_said l.lines l.i)) l.out l.at × (l.above ≡ last_id 0 (lines_said l.lines l.i))
-
-abbrev pub decreases-loop-i : goal.decreases-loop-i
-decreases-loop-i l = l.n - l.i

@@ -1,5 +1,5 @@
-use Prim.Native.Nat.{ℕ, ◌≤◌, ◌-◌}
-use mathlib.Core.{Bool.{Bool, cond, not}, List.List, Path.{◌≡◌}}
+use Prim.Native.Nat.{ℕ}
+use mathlib.Core.{Bool.{Bool, not, ◌||◌}, List.List, Path.{◌≡◌}}
 use lib.ListN.{drop}
 use Rattle.records.specs.Phone.{decode}
 use Rattle.rules.specs.{Words.any, ImageRules.third_party_root, Forms.listed, Codes.{certificate_named, certificate_known}}
@@ -12,10 +12,5 @@ abbrev pub other : List ℕ → ℕ → Bool
 other s n = not (third_party_root (certificate_named (decode s) n))
 
 abbrev pub invariant-loop-i : goal.invariant-loop-i
-invariant-loop-i l = (l.i ≤ l.n)
-    × (l.n ≡ l.e.fourth)
-    × (any (unknown l.s) (drop l.i (listed l.e)) ≡ any (unknown l.s) (listed l.e))
-    × (cond (any (other l.s) (drop l.i (listed l.e))) 12 l.told ≡ cond (any (other l.s) (listed l.e)) 12 0)
-
-abbrev pub decreases-loop-i : goal.decreases-loop-i
-decreases-loop-i l = l.n - l.i
+invariant-loop-i l = (any (unknown l.s) (drop l.i (listed l.e)) ≡ any (unknown l.s) (listed l.e))
+    × ((l.other || any (other l.s) (drop l.i (listed l.e))) ≡ any (other l.s) (listed l.e))

@@ -1,39 +1,40 @@
-use mathlib.Core.{Bool.not, List.{[], ◌∷◌}, Path.{ap, ap₂, ◌∙◌}}
+use mathlib.Core.{Bool.not, Path.{◌≡◌, ap, ap₂, ◌∙◌}}
+use native.Mathlib.Omega.{arith}
 use Rattle.records.specs.{Phone.{decode, certificate_at}}
-use Rattle.rules.specs.{Words.{◌⇒◌, first}, Chains.in_date}
-use Rattle.handling.proofs.{CodeRows.{none, here, next, gives, says}, PlanLaws.{stands, decides}}
+use Rattle.rules.specs.{Words.{first}, Chains.in_date}
+use Rattle.handling.specs.{Plans.plan, RefusalCodes.by_code}
+use Rattle.handling.proofs.{Decided.{refused_first, refused_next, on_next}, CodeRows.{none, here, next, gives, says}}
 use Rattle.certificates.specs.MarkingRows.{validity_rows}
-use Rattle.certificates.proofs.NamedCertificate.{read_fits, read_there}
+use Rattle.certificates.proofs.{NamedCertificate.{read_fits, read_there}, Refusing.passed_on}
 use Rattle.certificates.proofs.decisions.judge_marking.Goals as goal
+use Rattle.certificates.proofs.decisions.judge_marking.Goals.{After-judge_validity}
 
-pub judge_validity-told-requires-clause-accepted_image : goal.judge_validity-told-requires-clause-accepted_image
-judge_validity-told-requires-clause-accepted_image c =
-    let a = c.requires in
-    let is = c.certificate-c.ensures in a.accepted_image
+-- what the judge of validity has told of the certificate in the slot
+told : (c : After-judge_validity) → let p = decode c.args.s.now in
+    by_code c.judge_validity.result ≡ plan (first (validity_rows p (certificate_at p c.args.slot))) tt
+told c = c.judge_validity.ensures ∙ ap (λ x. plan (first (validity_rows (decode c.args.s.now) x)) tt) c.certificate-c.ensures
 
-pub judge_validity-told-requires-clause-clock_value : goal.judge_validity-told-requires-clause-clock_value
-judge_validity-told-requires-clause-clock_value c =
-    let a = c.requires in
-    let is = c.certificate-c.ensures in (c.clock-clock.ensures, c.of_other_operator.ensures)
+dated : (c : After-judge_validity) → let p = decode c.args.s.now in
+    c.in_date-dated.result ≡ in_date p.trust.seen.clock (certificate_at p c.args.slot)
+dated c = c.in_date-dated.ensures ∙ ap₂ in_date c.clock-clock.ensures c.certificate-c.ensures
 
-pub judge_validity-told-requires-clause-t : goal.judge_validity-told-requires-clause-t
-judge_validity-told-requires-clause-t c =
-    let a = c.requires in
-    let is = c.certificate-c.ensures in (read_fits a.accepted_image a.present_at is, read_there a.present_at is)
+pub judge_validity-requires-clause-c_fits : goal.judge_validity-requires-clause-c_fits
+judge_validity-requires-clause-c_fits c = read_fits c.requires.accepted_image c.requires.present_at c.certificate-c.ensures
 
-pub returns-then-told-ne0 : goal.returns-then-told-ne0
-returns-then-told-ne0 c = stands (validity_rows (decode c.args.s.now) (certificate_at (decode c.args.s.now) c.args.slot))
-    ((not (in_date (decode c.args.s.now).trust.seen.clock (certificate_at (decode c.args.s.now) c.args.slot)) ⇒ 18) ∷ [])
-    (c.judge_validity-told.ensures ∙ ap (λ x. first (validity_rows (decode c.args.s.now) x)) c.certificate-c.ensures) c.if-told-ne0.true
+pub judge_validity-requires-clause-c_present : goal.judge_validity-requires-clause-c_present
+judge_validity-requires-clause-c_present c = read_there c.requires.present_at c.certificate-c.ensures
+
+pub returns-in_err-judge_validity : goal.returns-in_err-judge_validity
+returns-in_err-judge_validity c =
+    passed_on _ _ c.from_residual.ensures.1
+    (refused_first _ _ tt (told (goal.at.returns-in_err-judge_validity c).After-judge_validity) c.in_err-judge_validity.was)
 
 pub returns-then-not-dated : goal.returns-then-not-dated
-returns-then-not-dated c = ((gives (here (says (c.in_date-dated.ensures ∙ ap₂ in_date c.clock-clock.ensures c.certificate-c.ensures)
-    (ap not c.if-not-dated.true)))) ∙ decides (validity_rows (decode c.args.s.now) (certificate_at (decode c.args.s.now) c.args.slot))
-    ((not (in_date (decode c.args.s.now).trust.seen.clock (certificate_at (decode c.args.s.now) c.args.slot)) ⇒ 18) ∷ []) tt
-    (c.judge_validity-told.ensures ∙ ap (λ x. first (validity_rows (decode c.args.s.now) x)) c.certificate-c.ensures) c.if-told-ne0.false)
+returns-then-not-dated c =
+    let v = (goal.at.returns-then-not-dated c).After-judge_validity in
+    refused_next _ _ tt (told v) tt c.in_ok-judge_validity.was (λ z. omega (arith, z)) (gives (here (says (dated v) (ap not c.if-not-dated.true))))
 
 pub returns : goal.returns
-returns c = ((gives (next (says (c.in_date-dated.ensures ∙ ap₂ in_date c.clock-clock.ensures c.certificate-c.ensures)
-    (ap not c.if-not-dated.false)) none)) ∙ decides (validity_rows (decode c.args.s.now) (certificate_at (decode c.args.s.now) c.args.slot))
-    ((not (in_date (decode c.args.s.now).trust.seen.clock (certificate_at (decode c.args.s.now) c.args.slot)) ⇒ 18) ∷ []) tt
-    (c.judge_validity-told.ensures ∙ ap (λ x. first (validity_rows (decode c.args.s.now) x)) c.certificate-c.ensures) c.if-told-ne0.false)
+returns c =
+    let v = (goal.at.returns c).After-judge_validity in
+    on_next _ _ tt (told v) tt c.in_ok-judge_validity.was (gives (next (says (dated v) (ap not c.if-not-dated.false)) none))

@@ -1,60 +1,58 @@
-use mathlib.Core.{Bool.{not}}
+use mathlib.Core.{Bool.not, List.{List, [], ◌∷◌}, Path.{◌≡◌, refl, sym, ap, ◌∙◌}}
 use native.Mathlib.Omega.{arith}
-use Rattle.records.specs.Phone.{decode}
-use Rattle.rules.specs.{Forms.{listed}, Words.{any, first}, ImageRules.third_party_root, Codes.{certificate_named, certificate_known}}
-use Rattle.handling.proofs.CodeRows.{rest, here, next, says}
-use Rattle.certificates.proofs.CertificateCodes.{message_told}
-use Rattle.terms.proofs.{FormTests.message_listed, Listed.{told_unknown, told_known, told_other}}
-use mathlib.Core.Path.{ap}
+use Rattle.std.specs.Prelude.{ℕ}
+use Rattle.records.specs.{Phone.{Phone, decode}, declared.Event.Event}
+use Rattle.rules.specs.{Words.{any, Check, ◌⇒◌, first}, ImageRules.third_party_root, Actors.may_act}
+use Rattle.rules.specs.{Forms.{listed, with_kind}, Codes.{certificate_named, code_of}}
+use Rattle.handling.proofs.CodeRows.{none, here, next, rest, gives, says}
+use Rattle.handling.proofs.PlanLaws.{plan_refused, plan_on, reason_not_0, refused_code, on_code, on_slot, stands, decides}
+use Rattle.terms.proofs.FormTests.{message_listed}
+use Rattle.certificates.proofs.{CertificateCodes.message_told, Refusing.passed_on}
 use Rattle.certificates.proofs.decisions.message.Goals as goal
+use Rattle.certificates.proofs.decisions.message.Goals.{In_ok-other}
 
-pub returns-then-not-message_form : goal.returns-then-not-message_form
-returns-then-not-message_form c = (
-  (message_told _ _ (omega arith) (here
-      (says (c.message_form.ensures _) (ap not c.if-not-message_form.true)))),
-  λ z. omega arith,
-)
+-- the rows behind those that the list is judged by
+abbrev later : Phone → Event → List Check
+later p e = (not (may_act 9 0 e.actor) ⇒ 4) ∷ (any (λ n. not (third_party_root (certificate_named p n))) (listed e) ⇒ 12) ∷ []
 
-pub judge_listed-told-requires-clause-framed : goal.judge_listed-told-requires-clause-framed
-judge_listed-told-requires-clause-framed c = c.requires.accepted_image.framed
+code_of_later : {r : ℕ} (c : In_ok-other) → r ≡ first (later (decode c.args.s.now) c.args.e) → r ≡ code_of (decode c.args.s.now) (with_kind 9 c.args.e)
+code_of_later c q =
+    message_told _ _ (omega arith) (next (says (c.message_form.ensures _) (ap not c.if-not-message_form.false))
+    (rest (q ∙ decides _ (later (decode c.args.s.now) c.args.e) tt refl (on_code _ _ c.judge_listed.ensures c.in_ok-other.was))))
 
-pub judge_listed-told-requires-clause-fourth_bound : goal.judge_listed-told-requires-clause-fourth_bound
-judge_listed-told-requires-clause-fourth_bound c =
-    (let a = c.args in
-    message_listed (decode a.s.now) a.e (says (c.message_form.ensures (decode a.s.now)) (ap not c.if-not-message_form.false)))
+pub returns-then-not-message_form-clause-code : goal.returns-then-not-message_form-clause-code
+returns-then-not-message_form-clause-code c =
+    plan_refused _ _ (omega arith) (message_told _ _ (omega arith) (here (says (c.message_form.ensures _) (ap not c.if-not-message_form.true))))
 
-pub returns-then-told-eq3 : goal.returns-then-told-eq3
-returns-then-told-eq3 c = (
-  (message_told _ _ (omega arith) (next (says (c.message_form.ensures _) (ap not c.if-not-message_form.false))
-      (here (told_unknown (any (λ n. not (certificate_known (decode c.args.s.now) n)) (listed c.args.e))
-      (any (λ n. not (third_party_root (certificate_named (decode c.args.s.now) n)))
-      (listed c.args.e)) c.judge_listed-told.ensures c.if-told-eq3.true)))),
-  λ z. (let a = c.args in
-      message_listed (decode a.s.now) a.e (says (c.message_form.ensures (decode a.s.now)) (ap not c.if-not-message_form.false))),
-)
+pub judge_listed-requires-clause-fourth_bound : goal.judge_listed-requires-clause-fourth_bound
+judge_listed-requires-clause-fourth_bound c =
+    message_listed (decode c.args.s.now) c.args.e (says (c.message_form.ensures _) (ap not c.if-not-message_form.false))
 
-pub returns-then-not-may_act : goal.returns-then-not-may_act
-returns-then-not-may_act c = (
-  (message_told _ _ (omega arith) (next (says (c.message_form.ensures _) (ap not c.if-not-message_form.false))
-      (next (told_known (any (λ n. not (certificate_known (decode c.args.s.now) n)) (listed c.args.e))
-      (any (λ n. not (third_party_root (certificate_named (decode c.args.s.now) n))) (listed c.args.e)) c.judge_listed-told.ensures c.if-told-eq3.false)
-      (here (says c.may_act.ensures (ap not c.if-not-may_act.true)))))),
-  λ z. (let a = c.args in
-      message_listed (decode a.s.now) a.e (says (c.message_form.ensures (decode a.s.now)) (ap not c.if-not-message_form.false))),
-)
+pub returns-in_err-other-clause-code : goal.returns-in_err-other-clause-code
+returns-in_err-other-clause-code c =
+    let n = reason_not_0 c.in_err-other.field-0.0 in
+    passed_on _ _ c.from_residual.ensures.1
+    (plan_refused _ _ (omega arith)
+    (message_told _ _ (omega arith) (next (says (c.message_form.ensures _) (ap not c.if-not-message_form.false))
+    (rest (stands _ (later (decode c.args.s.now) c.args.e) (refused_code _ _ c.judge_listed.ensures c.in_err-other.was) n)))))
 
-pub returns : goal.returns
-unfolding first
-returns c = (
-  (message_told _ _ (omega arith) (next (says (c.message_form.ensures _) (ap not c.if-not-message_form.false))
-      (next (told_known (any (λ n. not (certificate_known (decode c.args.s.now) n)) (listed c.args.e))
-      (any (λ n. not (third_party_root (certificate_named (decode c.args.s.now) n))) (listed c.args.e)) c.judge_listed-told.ensures c.if-told-eq3.false)
-      (next (says c.may_act.ensures (ap not c.if-not-may_act.false)) (rest
-      (told_other (any (λ n. not (certificate_known (decode c.args.s.now) n)) (listed c.args.e))
-      (any (λ n. not (third_party_root (certificate_named (decode c.args.s.now) n))) (listed c.args.e)) c.judge_listed-told.ensures
-      (told_known (any (λ n. not (certificate_known (decode c.args.s.now) n)) (listed c.args.e))
-      (any (λ n. not (third_party_root (certificate_named (decode c.args.s.now) n)))
-      (listed c.args.e)) c.judge_listed-told.ensures c.if-told-eq3.false))))))),
-  λ z. (let a = c.args in
-      message_listed (decode a.s.now) a.e (says (c.message_form.ensures (decode a.s.now)) (ap not c.if-not-message_form.false))),
-)
+pub returns-then-not-may_act-clause-code : goal.returns-then-not-may_act-clause-code
+returns-then-not-may_act-clause-code c =
+    plan_refused _ _ (omega arith)
+    (code_of_later (goal.at.returns-then-not-may_act-clause-code c).In_ok-other (gives (here (says c.may_act.ensures (ap not c.if-not-may_act.true)))))
+
+pub returns-then-other-clause-code : goal.returns-then-other-clause-code
+returns-then-other-clause-code c =
+    plan_refused _ _ (omega arith)
+    (code_of_later (goal.at.returns-then-other-clause-code c).In_ok-other (gives (next (says c.may_act.ensures (ap not c.if-not-may_act.false))
+    (here (sym (on_slot _ _ c.judge_listed.ensures c.in_ok-other.was) ∙ c.if-other.true)))))
+
+pub returns-clause-code : goal.returns-clause-code
+returns-clause-code c =
+    plan_on _ _ refl
+    (code_of_later (goal.at.returns-clause-code c).In_ok-other (gives (next (says c.may_act.ensures (ap not c.if-not-may_act.false))
+    (next (sym (on_slot _ _ c.judge_listed.ensures c.in_ok-other.was) ∙ c.if-other.false) none))))
+
+pub returns-clause-few : goal.returns-clause-few
+returns-clause-few c =
+    message_listed (decode c.args.s.now) c.args.e (says (c.message_form.ensures _) (ap not c.if-not-message_form.false))

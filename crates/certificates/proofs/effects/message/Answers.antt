@@ -22,9 +22,6 @@ loop-i-preserved-then-not-is_third_party_root c =
       gathers_none (disables e) no_certificate _ v.i v.broken v.invariant.1 (omega arith) (disables_none e (x ∙ sweep_here certificates _ v.invariant.0) n),
     )
 
-pub set_enabled-requires-clause-framed : goal.set_enabled-requires-clause-framed
-set_enabled-requires-clause-framed c = c.loop-i.invariant.0.framed
-
 pub loop-i-preserved : goal.loop-i-preserved
 loop-i-preserved c =
     let e = c.args.e in
@@ -36,11 +33,11 @@ loop-i-preserved c =
       gathers (disables e) no_certificate _ v.i v.broken v.invariant.1 (omega arith) (disables_told e (x ∙ sweep_here certificates _ v.invariant.0) m y),
     )
 
-pub returns : goal.returns
+pub returns-clause-image : goal.returns-clause-image
 unfolding message
-returns c =
-    let e = c.args.e in
-    let v = c.loop-i in (
-      c.set_mode.ensures ∙ ap (λ p. encode (with_mode e.third p)) (sweep_said certificates _ v.invariant.0 (omega arith)),
-      gathered (disables e) no_certificate _ v.i v.broken v.invariant.1 (omega arith),
-    )
+returns-clause-image c =
+    c.set_mode.ensures ∙ ap (λ p. encode (with_mode c.args.e.third p)) (sweep_said certificates _ c.loop-i.invariant.0 (omega arith))
+
+pub returns-clause-broken : goal.returns-clause-broken
+returns-clause-broken c =
+    gathered (disables c.args.e) no_certificate _ c.loop-i.i c.loop-i.broken c.loop-i.invariant.1 (omega arith)

@@ -1,4 +1,3 @@
-use Prim.Native.Nat.{◌-◌}
 use mathlib.Core.{Bool.◌||◌, Path.{◌≡◌}}
 use lib.ListN.{drop}
 use Rattle.records.specs.Phone.{decode, enabling}
@@ -11,6 +10,3 @@ use Rattle.certificates.proofs.effects.message.Given as goal
 abbrev pub invariant-loop-i : goal.invariant-loop-i
 invariant-loop-i l = Sweeping certificates (at third_party_root (λ c. enabling (enabled_by l.e c) c)) l.initial.s l.s l.slots l.i
     × ((l.broken || any (disables l.e) (drop l.i (decode l.initial.s).trust.certificates)) ≡ any (disables l.e) (decode l.initial.s).trust.certificates)
-
-abbrev pub decreases-loop-i : goal.decreases-loop-i
-decreases-loop-i l = l.slots - l.i

@@ -1,13 +1,11 @@
-use mathlib.Core.Path.{◌≡◌}
+use Rattle.std.proofs.Common.{◌≡◌}
 use lib.Dec.{eqb}
 use Rattle.records.specs.Phone.{decode}
 use Rattle.bits.specs.SlotWord.{any_of}
 use Rattle.chain.proofs.WordsAny.{Going}
 use Rattle.chain.proofs.search.holds_key.Given as goal
 
-abbrev pub invariant-loop-left : goal.invariant-loop-left
-invariant-loop-left l = Going (decode l.s).trust l.left
-    × (any_of l.left (λ c. eqb c.key l.key) (decode l.s).trust.certificates ≡ any_of l.among (λ c. eqb c.key l.key) (decode l.s).trust.certificates)
-
-abbrev pub decreases-loop-left : goal.decreases-loop-left
-decreases-loop-left l = l.left
+abbrev pub invariant-loop-i : goal.invariant-loop-i
+invariant-loop-i l = Going (decode l.s).trust l.i-iterator.0
+    × (any_of l.i-iterator.0 (λ c. eqb c.key l.key) (decode l.s).trust.certificates
+    ≡ any_of l.among (λ c. eqb c.key l.key) (decode l.s).trust.certificates)

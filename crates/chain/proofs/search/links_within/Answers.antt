@@ -6,15 +6,14 @@ use Rattle.chain.proofs.search.links_within.Goals as goal
 pub returns-then-n-eq0 : goal.returns-then-n-eq0
 returns-then-n-eq0 c = least_none _ _ c.if-n-eq0.true
 
-pub returns-then-first : goal.returns-then-first
-returns-then-first c = climb_found _ _ _ _ c.sweep-first.ensures _ c.if-n-eq0.false c.if-first.true
+pub returns-in-None : goal.returns-in-None
+returns-in-None c = climb_found _ _ _ c.level_of.ensures _ c.if-n-eq0.false c.in-None.is
 
 pub climb-requires-clause-level_bound : goal.climb-requires-clause-level_bound
-climb-requires-clause-level_bound c = level_fits _ _ _ _ c.sweep-first.ensures
+climb-requires-clause-level_bound c = level_fits _ _ _ c.level_of.ensures c.in-Some.is
 
 pub one_more-requires : goal.one_more-requires
 one_more-requires c = climb_small _ _ _ c.climb.ensures c.if-n-eq0.false (omega arith)
 
-pub returns : goal.returns
-returns c =
-    c.one_more.ensures ∙ climb_on _ _ _ _ c.sweep-first.ensures _ c.if-n-eq0.false c.if-first.false _ c.climb.ensures
+pub returns-in-Some : goal.returns-in-Some
+returns-in-Some c = c.one_more.ensures ∙ climb_on _ _ _ c.level_of.ensures c.in-Some.is _ c.if-n-eq0.false _ c.climb.ensures

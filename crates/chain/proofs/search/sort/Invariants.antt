@@ -1,15 +1,6 @@
-use Prim.Native.Nat.{◌-◌, ◌≤◌}
-use mathlib.Core.Path.{◌≡◌}
-use lib.ListN.{length}
 use Rattle.records.specs.Phone.{decode}
 use Rattle.chain.proofs.Sorting.{Sorting}
 use Rattle.chain.proofs.search.sort.Given as goal
 
 abbrev pub invariant-loop-i : goal.invariant-loop-i
-invariant-loop-i l = (l.i ≤ l.all)
-    × (l.all ≡ length (decode l.s).trust.certificates)
-    × (l.all ≤ 64)
-    × Sorting (decode l.s).trust l.domain l.roots l.links l.i
-
-abbrev pub decreases-loop-i : goal.decreases-loop-i
-decreases-loop-i l = l.all - l.i
+invariant-loop-i l = Sorting (decode l.s).trust l.domain l.roots l.links l.i

@@ -1,61 +1,46 @@
+use Rattle.std.proofs.Common.{arith}
 use mathlib.Core.Path.{sym, ◌∙◌}
-use native.{Mathlib.Nat.zero-add, Mathlib.Omega.arith}
-use Rattle.bits.proofs.WordLaws.{falls, keep_left_none}
+use native.Mathlib.Nat.{zero-add}
+use Rattle.bits.proofs.WordLaws.{keep_left_none}
 use Rattle.chain.specs.SlotWords.{verified_by}
-use Rattle.chain.proofs.{WordsAny.{at_slot, falls_to, goes_to, found_skips, found_takes}, Rounds.{verified_nothing, found_fits}}
+use Rattle.chain.proofs.{WordsAny.{at_slot, goes_to, found_skips, found_takes}, Rounds.{verified_nothing, found_fits}}
 use Rattle.chain.proofs.search.verified.Goals as goal
 
 pub returns-then-fresh-eq0 : goal.returns-then-fresh-eq0
 returns-then-fresh-eq0 c = search verified_nothing
 
-pub loop-next-init : goal.loop-next-init
-loop-next-init c =
-    let z = c.requires in
-    let n = z.framed.sized.certificates in
-    (record { few = n; fits = z.left_bound }, record { few = n; fits = z.fresh_bound }, zero-add _)
+pub loop-i-init : goal.loop-i-init
+loop-i-init c =
+    rw c.into_iter-i-iterator.ensures.into_iter_gives (record { few = c.requires.framed.sized.certificates; fits = c.requires.left_bound }, zero-add _)
 
 pub certificate-requires-clause-i_in_bounds : goal.certificate-requires-clause-i_in_bounds
-certificate-requires-clause-i_in_bounds c = search at_slot
+certificate-requires-clause-i_in_bounds c = let n = c.in-Some.ensures.steps in at_slot c.loop-i.invariant.0 n.0 n.1
 
-pub loop-next-smaller-then-not-holds_key : goal.loop-next-smaller-then-not-holds_key
-loop-next-smaller-then-not-holds_key c = search falls_to
-
-pub loop-next-preserved-then-not-holds_key : goal.loop-next-preserved-then-not-holds_key
+pub loop-i-preserved-then-not-holds_key : goal.loop-i-preserved-then-not-holds_key
 unfolding verified_by
-loop-next-preserved-then-not-holds_key c =
-    let v = c.loop-next in
-    let e = c.lowest-i.ensures in
-    let u = sym c.holds_key.ensures ∙ c.if-not-holds_key.true in
-    let q = c.certificate.ensures in
-    (search goes_to, v.invariant.1, found_skips v.invariant.0 (λ z. omega arith) e _ q c.rest-next.ensures _ v.invariant.2 u)
+loop-i-preserved-then-not-holds_key c =
+    let n = c.in-Some.ensures.steps in
+    let g = c.loop-i.invariant.0 in
+    (goes_to g n.0 n.1 n.2, found_skips g n.0 n.1 _ c.certificate.ensures n.2 _ c.loop-i.invariant.1 (sym c.holds_key.ensures ∙ c.if-not-holds_key.true))
 
-pub overflow_sub-found : goal.overflow_sub-found
-overflow_sub-found c =
-    let f = falls 64 c.loop-next.next (omega arith) in
-    omega (arith, c.rest-next.ensures)
+pub overflow_shl-found : goal.overflow_shl-found
+overflow_shl-found c = let n = c.in-Some.ensures.steps in omega (arith, at_slot c.loop-i.invariant.0 n.0 n.1, c.requires.framed.sized.certificates)
 
 pub overflow_add-found : goal.overflow_add-found
 unfolding verified_by
 overflow_add-found c =
-    let v = c.loop-next in
-    let e = c.lowest-i.ensures in
-    let u = sym c.holds_key.ensures ∙ c.if-not-holds_key.false in
-    let q = c.certificate.ensures in
-    let k = found_takes v.invariant.0 (λ z. omega arith) e _ q c.rest-next.ensures _ v.invariant.2 u in
-    let f = found_fits _ _ _ v.invariant.0 _ _ k in
+    let n = c.in-Some.ensures.steps in
+    let g = c.loop-i.invariant.0 in
+    let k = found_takes g n.0 n.1 _ c.certificate.ensures n.2 _ c.loop-i.invariant.1 (sym c.holds_key.ensures ∙ c.if-not-holds_key.false) in
+    let f = found_fits _ _ _ g _ _ k in
     omega arith
 
-pub loop-next-smaller : goal.loop-next-smaller
-loop-next-smaller c = search falls_to
-
-pub loop-next-preserved : goal.loop-next-preserved
+pub loop-i-preserved : goal.loop-i-preserved
 unfolding verified_by
-loop-next-preserved c =
-    let v = c.loop-next in
-    let e = c.lowest-i.ensures in
-    let u = sym c.holds_key.ensures ∙ c.if-not-holds_key.false in
-    let q = c.certificate.ensures in
-    (search goes_to, v.invariant.1, found_takes v.invariant.0 (λ z. omega arith) e _ q c.rest-next.ensures _ v.invariant.2 u)
+loop-i-preserved c =
+    let n = c.in-Some.ensures.steps in
+    let g = c.loop-i.invariant.0 in
+    (goes_to g n.0 n.1 n.2, found_takes g n.0 n.1 _ c.certificate.ensures n.2 _ c.loop-i.invariant.1 (sym c.holds_key.ensures ∙ c.if-not-holds_key.false))
 
 pub returns : goal.returns
-returns c = let v = c.loop-next in keep_left_none _ _ _ _ v.next (omega arith) v.invariant.2
+returns c = keep_left_none _ _ _ _ _ c.in-None.ensures.steps.0 c.loop-i.invariant.1

@@ -3,6 +3,3 @@ use Rattle.opening.proofs.sweeps.i5_with.Goals as goal
 
 pub returns-then-not-is_asked : goal.returns-then-not-is_asked
 returns-then-not-is_asked c = search i5_spared
-
-pub returns : goal.returns
-returns c = rw (c.i5_below.ensures, c.owned_by_card.ensures, c.certificate-c.ensures)

@@ -1,23 +1,7 @@
-use borrow.Author.Rules.{rules}
-use native.Mathlib.Omega.{arith}
-use mathlib.Core.Path.{refl, sym, ◌∙◌}
+use Rattle.std.proofs.Common.{rules}
 use Rattle.records.specs.Phone.{no_certificate}
-use Rattle.laws.proofs.Loops.{any_stops, any_goes_on, any_fails}
+use Rattle.sweep.proofs.FirstFound.{some_found}
 use Rattle.reasons.proofs.slots.is_served.Goals as goal
 
-pub loop-i-init : goal.loop-i-init
-loop-i-init c = (search rules, search rules, refl)
-
-pub returns-then-is_serving : goal.returns-then-is_serving
-returns-then-is_serving c =
-    let v = c.loop-i in
-    any_stops no_certificate _ v.i _ _ v.invariant.2 (omega arith) refl (sym c.is_serving.ensures ∙ c.if-is_serving.true)
-
-pub loop-i-preserved : goal.loop-i-preserved
-loop-i-preserved c =
-    let v = c.loop-i in
-    let on = any_goes_on no_certificate _ v.i _ _ v.invariant.2 (omega arith) refl (sym c.is_serving.ensures ∙ c.if-is_serving.false) in
-    (search rules, search rules, on)
-
 pub returns : goal.returns
-returns c = any_fails no_certificate _ c.loop-i.i _ _ c.loop-i.invariant.2 (omega arith)
+returns c = some_found _ _ no_certificate _ c.certificate_slots.ensures.0 _ c.first.ensures c.is_some.ensures (λ i b h p. search rules)

@@ -5,6 +5,6 @@ use Rattle.records.proofs.Certificate.write_small.Goals as goal
 pub returns : goal.returns
 returns c =
     written
-    (more c.write16.ensures (more c.write16-2.ensures (more c.write8.ensures
-    (more c.write8-2.ensures (more c.write8-3.ensures (more c.write8-4.ensures done))))))
+    (more c.write.ensures (more c.write-2.ensures (more c.write-3.ensures
+    (more c.write-4.ensures (more c.write-5.ensures (more c.write-6.ensures done))))))
     (omega arith)

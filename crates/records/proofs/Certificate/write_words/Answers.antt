@@ -4,4 +4,4 @@ use Rattle.records.proofs.Certificate.write_words.Goals as goal
 
 pub returns : goal.returns
 returns c =
-    written_from (more c.write32.ensures (more c.write32-2.ensures (more c.write32-3.ensures (more c.write32-4.ensures done)))) (omega arith)
+    written_from (more c.write.ensures (more c.write-2.ensures (more c.write-3.ensures (more c.write-4.ensures done)))) (omega arith)

@@ -4,6 +4,6 @@ use Rattle.records.proofs.Executable.write.Goals as goal
 pub returns : goal.returns
 returns c =
     written
-    (more c.write16.ensures (more c.write8.ensures (more c.write8-2.ensures
-    (more c.write32.ensures (more c.write32-2.ensures done)))))
+    (more c.write.ensures (more c.write-2.ensures (more c.write-3.ensures
+    (more c.write-4.ensures (more c.write-5.ensures done)))))
     c.requires

@@ -3,4 +3,4 @@ use Rattle.records.proofs.FramedWrites.{enabled_written}
 use Rattle.records.proofs.image.set_enabled.Goals as goal
 
 pub returns : goal.returns
-returns c = c.write8.ensures ∙ search enabled_written
+returns c = c.write.ensures ∙ search enabled_written

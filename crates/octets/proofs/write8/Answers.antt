@@ -1,7 +1,0 @@
-use mathlib.Core.Path.{sym}
-use Rattle.octets.proofs.ByteLaws.{put_none, put_next}
-use native.Mathlib.Omega.{arith}
-use Rattle.octets.proofs.write8.Goals as goal
-
-pub returns : goal.returns
-returns c = put_next _ _ _ _ (sym (put_none _ _)) c.store.ensures (omega arith) (omega arith)

@@ -1,0 +1,3 @@
+pub mod FirstFound
+pub mod FirstBroken
+pub mod OneFirst

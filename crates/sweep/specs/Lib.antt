@@ -1,0 +1,2 @@
+pub mod FirstPassing
+pub mod LowestBroken
