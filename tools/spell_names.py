@@ -145,6 +145,9 @@ def clashes(names):
 
 
 def main(argv):
+    if argv not in ([], ["--list"]):
+        print(__doc__.strip())
+        return 0 if argv in (["--help"], ["-h"]) else 2
     names = declared()
     if "--list" in argv:
         for n in sorted(names):

@@ -193,7 +193,7 @@ fn up(s: &[u8], domain: u8, level: u64) -> Option<u64>
     Some(links)
 }
 
-// A count of links with one more below them, where there is a chain.
+// A count of links with one more below them, where there is a chain. Here and below 0 is 01's own number for no chain (`links`, `least`).
 fn one_more(n: u8) -> u8
     requires { n < 255 }
     ensures { result ≡ cond (eqb n 0) 0 (suc n) }

@@ -154,6 +154,7 @@ pub fn monitor_why(image: &[u8], id: u16, lines: &mut [u8]) -> u64
 
 // The events of a timeline for an image, with the clock events put in, as many whole ones as the buffer has room for: the answer as a number, from
 // the low byte up two bytes of the number of events, code, rule and two bytes of offset, as monitor_why has them. To be run by monitor_run. Any bytes.
+// A function by itself, as `monitor_why` is: both have names in C.
 pub fn monitor_timeline(image: &[u8], timeline: &[u8], events: &mut [u8]) -> u64
     ensures { UnrolledFor image.now timeline.now events.old result events.new }
 {

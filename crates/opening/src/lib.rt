@@ -27,6 +27,7 @@ fn broken(rule: u8, at: Option<Site>) -> Result<(), Fault>
     }
 }
 
+// I2. The rules are alike once their names are taken away: each says another rule of 01.
 fn i2(s: &[u8]) -> Result<(), Fault>
     requires { Framed s.now }
     ensures { result ≡ kept_or (i2 (decode s.now)) (at_rule 2 (certificate_site i2 (decode s.now))) }
@@ -161,7 +162,7 @@ fn offset(s: &[u8], f: Fault) -> u16
     (here.at + here.size * here.index) as u16
 }
 
-// An accepted image has rule 0 at its first byte, and is told in the same way, so that a refused one costs no more.
+// An accepted image has rule 0 at its first byte, as `fault` says, and is told in the same way, so that a refused one costs hardly more.
 fn fault_of(s: &[u8], outcome: Result<(), Fault>) -> Fault
     requires { outcome ≡ opening s.now }
     ensures { result ≡ fault s.now }

@@ -273,6 +273,9 @@ one_chain_settle κs a r r' e e' = written
 
 -- ==== handling
 
+pub one_handling_refusal_from : OneResult Rattle.handling.proofs.RefusalFromNoRoom.from.Reads.Learnt
+one_handling_refusal_from κs a r r' e e' = returned
+
 pub one_handling_refusal_code : OneResult Rattle.handling.proofs.Refusal.code.Reads.Learnt
 one_handling_refusal_code κs a r r' e e' = returned
 

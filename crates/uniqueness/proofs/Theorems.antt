@@ -51,6 +51,9 @@ one_slots_next s t u None (Some j) x y = absurd (y.0 x.0)
 one_slots_next s t u (Some i) None x y = absurd (x.0 y.0)
 one_slots_next s t u (Some i) (Some j) x y = (ap Some (returned x.1 y.1), returned x.2 y.2)
 
+pub one_bits_slots_next : OneResult Rattle.bits.proofs.slots.SlotsIterator.next.Reads.Learnt
+one_bits_slots_next κs a r r' e e' x y = (one_slots_next _ _ _ _ _ x.0 y.0).0
+
 -- ==== sweep: the first slot that passes, where the test answers each slot one thing alone
 
 pub one_sweep_first : (gives : ℕ → Bool → Type 0) → ((i : ℕ) (b b' : Bool) → gives i b → gives i b' → b ≡ b') → (n : ℕ)

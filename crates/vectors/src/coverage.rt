@@ -31,6 +31,7 @@ fn count<const COLUMNS: usize>(table: &mut [[u64; COLUMNS]], row: usize, column:
     }
 }
 
+// The row of a kind: row 0 is that of every number that is no kind, which is counted like the others.
 fn row(kind: u8) -> usize {
     if KINDS <= kind as usize {
         return 0;
