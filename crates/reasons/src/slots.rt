@@ -1,6 +1,6 @@
 // The slots as an explanation asks them: the record with the lowest id, and whether there is one at all.
 ghost use Rattle.std.specs.Prelude.{ℕ, cond, ◌&&◌, ◌||◌, ◌≡◌, ◌<◌, eqb, ltb, length};
-ghost use Rattle.records.specs.Phone.{decode, no_certificate, certificate_at};
+ghost use Rattle.records.specs.Phone.{decode, certificate_at};
 ghost use Rattle.records.specs.Frame.{Framed};
 ghost use Rattle.rules.specs.Words.{any};
 ghost use Rattle.rules.specs.Chains.{in_date, serves, good};
@@ -10,23 +10,6 @@ ghost use Rattle.reasons.specs.LowestPassing.{IsLowest};
 use records::{Certificate, image};
 
 // ---- the lowest id
-
-fn no_certificate() -> Certificate
-    ensures { result ≡ no_certificate }
-{
-    Certificate {
-        id: 0,
-        place: 0,
-        kind: 0,
-        domain: 0,
-        mark: 0,
-        enabled: 0,
-        key: 0,
-        verifying: 0,
-        owner: 0,
-        expiry: 0,
-    }
-}
 
 // c where it passes, its id is above n, and m is none or has a higher one; else m.
 fn earlier(passes: bool, n: u16, c: Certificate, m: Certificate) -> Certificate
@@ -44,7 +27,7 @@ fn lowest<F: Fn(usize, Certificate) -> bool>(s: &[u8], above: u16, passes: F) ->
     requires callable { (i : ℕ) → i < length (decode s.now).trust.certificates → F.pre passes i (certificate_at (decode s.now) i) }
     ensures { IsLowest (F.post passes) above (decode s.now).trust.certificates result }
 {
-    let mut best = no_certificate();
+    let mut best = Certificate::FREE;
     for i in (0..image::certificate_slots(s)).rev() {
         let c = image::certificate(s, i);
         best = earlier(passes(i, c), above, c, best);

@@ -1,12 +1,12 @@
 use Rattle.std.proofs.Common.{arith}
 use Prim.Native.Nat.{◌-◌}
-use mathlib.Core.Path.{subst, ◌∙◌}
+use mathlib.Core.Path.{subst}
 use Rattle.reasons.specs.LowestPassing.{IsLowest}
 use Rattle.reasons.proofs.Sweeps.{lowest_end, lowest_back, lowest_done}
 use Rattle.reasons.proofs.slots.lowest.Goals as goal
 
 pub loop-i-init : goal.loop-i-init
-loop-i-init g c = λ t h. c.no_certificate-best.ensures ∙ lowest_end _ _ _ c.certificate_slots-i.result (omega arith)
+loop-i-init g c = λ t h. lowest_end _ _ _ c.certificate_slots-i.result (omega arith)
 
 pub loop-i-preserved : goal.loop-i-preserved
 loop-i-preserved g c = λ t h.
