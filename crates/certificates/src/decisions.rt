@@ -68,6 +68,7 @@ pub fn install_certificate(s: &[u8], e: Event) -> Result<usize, Refusal>
 }
 
 // What stands against an event of a kind on the certificate that it names, besides its form, as far as who is allowed; it may be that nobody is.
+#[inline]
 fn allowed_on(s: &[u8], e: Event, kind: u8, nobody: bool) -> Result<usize, Refusal>
     requires accepted_image { AcceptedImage s.now }
     requires kind_bound { kind < 17 }
@@ -85,6 +86,7 @@ fn allowed_on(s: &[u8], e: Event, kind: u8, nobody: bool) -> Result<usize, Refus
 }
 
 // And that it is present. By itself, so that both are small enough for the compiler to put them into their callers.
+#[inline]
 fn check_present(s: &[u8], slot: usize) -> Result<(), Refusal>
     requires framed { Framed s.now }
     requires slot_in_bounds { slot < length (decode s.now).trust.certificates }
@@ -124,6 +126,7 @@ fn is_rival(clock: u32, card: u16, c: Certificate, x: Certificate) -> bool
     (x.id != c.id) & ((x.place == c.place) | (x.place == card))
 }
 
+#[inline(always)]
 fn has_rival(s: &[u8], clock: u32, card: u16, c: Certificate) -> bool
     requires { Framed s.now }
     ensures { result ≡ any (near_rival clock card c) (decode s.now).trust.certificates }
@@ -146,7 +149,8 @@ fn of_other_operator(s: &[u8], c: Certificate) -> bool
 }
 
 // What stands against c being valid, besides its mark and its date. The time, and whether it is of another operator, are lent
-// to it, so that it is small enough for the compiler to put it into both its callers.
+// to it, so that it is small enough for the compiler to put it into both its callers; the compiler is asked to, since it thinks otherwise.
+#[inline(always)]
 fn judge_validity(s: &[u8], clock: u32, c: Certificate, other: bool) -> Result<(), Refusal>
     requires accepted_image { AcceptedImage s.now }
     requires clock_value { clock ≡ (decode s.now).trust.seen.clock }

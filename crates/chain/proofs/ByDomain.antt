@@ -17,12 +17,12 @@ known p h x m =
 pub domain_known : (p : Phone) → T (i7 p) → (i : ℕ) → i < length p.executables → {x : Executable} → x ≡ executable_at p i → x.domain ≤ 3
 domain_known p h i b e = rw e (known p h (executable_at p i) (mem_at p.executables i no_executable b))
 
--- x was read of the slot of y
-module _ (t : Trust) {x y : Executable} (q : x ≡ y) where
-  -- what is asked of x in its own domain is what I8 asks of it
-  pub fits_own : x.domain ≢ 0 → {b : Bool} → b ≡ chained_in x.domain t x → not b ≡ not (chained_fits t y)
+-- what is asked of x in its own domain is what I8 asks of it
+module _ (t : Trust) (x : Executable) where
+  pub fits_own : x.domain ≢ 0 → {b : Bool} → b ≡ chained_in x.domain t x → b ≡ chained_fits t x
   unfolding chained_in
-  fits_own h e = ap not (e ∙ own ∙ ap (chained_fits t) q)
-    where
-      own : chained_in x.domain t x ≡ chained_fits t x
-      own = rw (eq-eqb x.domain x.domain refl, ne_eqb x.domain 0 h)
+  fits_own h e = e ∙ rw (eq-eqb x.domain x.domain refl, ne_eqb x.domain 0 h)
+
+-- and where it does not chain, that is what I8 has against y, of whose slot x was read
+pub unfit_own : (t : Trust) {x y : Executable} → x ≡ y → x.domain ≢ 0 → {b : Bool} → b ≡ chained_in x.domain t x → not b ≡ not (chained_fits t y)
+unfit_own t {x} q h e = ap not (fits_own t x h e ∙ ap (chained_fits t) q)

@@ -29,11 +29,16 @@ module _ (v : List ℕ) {e : Event} (q : e ≡ event_read v 0) where
   pub low_actor : {n : ℕ} → n ≡ (event_read v 0).actor → n ≤ 4 → e.actor < 5
   low_actor a h = let b = ap (λ e. e.actor) q in omega arith
 
-  pub read_of_kind : {l : List ℕ} (k : ℕ) {n : ℕ} {x : Answer} {r : Result Answer Refusal} {l' : List ℕ} → x ≡ answer_of r → n ≡ (event_read v 0).kind → n ≡ k
-      → Tried l (with_kind k e) r l' → Handled l (event_read v 0) x l'
-  read_of_kind {l} k {n} {x} {r} {l'} t i h d =
+  pub read_of_kind : {l : List ℕ} (k : ℕ) {n : ℕ} {r : Answer} {l' : List ℕ} → n ≡ (event_read v 0).kind → n ≡ k
+      → Handled l (with_kind k e) r l' → Handled l (event_read v 0) r l'
+  read_of_kind {l} k {n} {r} {l'} i h d =
       let own : with_kind k e ≡ event_read v 0 = ap (λ n. with_kind n e) (sym (ap (λ e. e.kind) q ∙ sym i ∙ h)) ∙ q in
-      subst (λ e. Handled l e x l') own (tried_told r d t)
+      subst (λ e. Handled l e r l') own d
+
+  -- and x is what is told of what its handler answered
+  pub tried_of_kind : {l : List ℕ} (k : ℕ) {n : ℕ} {x : Answer} {r : Result Answer Refusal} {l' : List ℕ} → x ≡ answer_of r → n ≡ (event_read v 0).kind → n ≡ k
+      → Tried l (with_kind k e) r l' → Handled l (event_read v 0) x l'
+  tried_of_kind k {r = r} t i h d = read_of_kind k i h (tried_told r d t)
 
 -- no kind but 1 to 16 has a form
 no_kind : (k : ℕ) → (k ≢ 0 → 16 < k) → get_or forms k no_form ≡ no_form

@@ -3,3 +3,4 @@ pub mod Answers
 pub mod WhyTold
 pub mod TimelineTold
 pub mod RunLaws
+pub mod PlainAnswers

@@ -98,7 +98,13 @@ fn follow(image: &mut [u8], events: &[u8], answers: &mut [u8], n: usize)
 {
     for i in 0..n {
         let a = one(image, events, i);
-        tell(answers, i, a);
+        // The image is accepted: there is no rule to tell and no byte, and none is read.
+        let plain = Answer {
+            rule: 0,
+            offset: 0,
+            ..a
+        };
+        tell(answers, i, plain);
     }
 }
 

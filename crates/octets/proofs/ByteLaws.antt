@@ -169,4 +169,5 @@ module _ (l : List ℕ) (i n : ℕ) {bs : List ℕ} (e : bs ≡ n / 256 % 256 �
   unfolding be
   low_tells h b =
       let f = ap (λ m. get_or m 1 0) e in
-      same_test _ _ _ _ (λ q. absurd (h q)) (λ q. omega arith)
+      let one : get_or l (i + 1) 0 ≡ be 1 l (i + 1) = omega arith in
+      ne_eqb _ _ h ∙ low_differs l i n _ one b (λ q. h (q ∙ sym f))

@@ -27,11 +27,13 @@ module _ (t : Trust) (key : ℕ) where
     told_all : rest_of slots above i ≡ [] → Told (holder_lines t key) out₀ i out
     told_all e = left_none (holder_lines t key) out₀ out i (subst (Untold out₀ out i) e f)
 
-    pub rest_none : i ≡ slots → Told (holder_lines t key) out₀ slots out
+    pub rest_none : slots ≤ i → Told (holder_lines t key) out₀ i out
     unfolding by_id
-    rest_none h =
-        let z : slots - i ≡ 0 = omega arith in
-        subst (λ n. Told (holder_lines t key) out₀ n out) h (told_all (ap (λ n. by_id n (has_key key) above t.certificates) z))
+    rest_none h = let z : slots - i ≡ 0 = omega arith in told_all (ap (λ n. by_id n (has_key key) above t.certificates) z)
+
+    -- and i is their number
+    pub rest_ended : i ≡ slots → Told (holder_lines t key) out₀ slots out
+    rest_ended h = subst (λ n. Told (holder_lines t key) out₀ n out) h (rest_none (omega arith))
 
     module _ (c : Certificate) (e : c ≡ lowest (has_key key) above t.certificates) where
       pub rest_stops : c.id ≡ 0 → Told (holder_lines t key) out₀ i out

@@ -2,11 +2,11 @@
 use Prim.Native.Nat.{ℕ, zero, suc, ◌≤◌, ◌<◌}
 use mathlib.Core.{Bool.{Bool, true, false, cond, not}, List.List, Path.{◌≡◌, refl, sym, ap, ◌∙◌}}
 use native.{Mathlib.Numerals.add-one, Mathlib.Omega.arith}
-use borrow.Author.Tests.{not-true, not-false, lt-ltb}
-use lib.{ListN.{length, get_or, take}, Seq.{take_all}}
+use borrow.Author.Tests.{not-true, not-false, lt-ltb, le-ltb}
+use lib.ListN.{length, get_or, take}
 use Rattle.std.specs.Prelude.{Option, Some, None, is_some}
 use Rattle.rules.specs.{Words.all, Faults.lowest}
-use Rattle.laws.proofs.{Lowest.{Grows, breaks_here, keeps_on, lowest_told}, More.{all_grows, below_fails}}
+use Rattle.laws.proofs.{Lowest.{Grows, breaks_here, breaks_nowhere, keeps_on, lowest_told}, More.{all_grows, below_fails}}
 use Rattle.sweep.specs.{FirstPassing.IsFirst, LowestBroken.broken_at}
 
 module _ {A : Type 0} {rule : List A → Bool} {more : List A → A → Bool} (g : Grows rule more) (d : A) (l : List A) (gives : ℕ → Bool → Type 0) (n : ℕ) where
@@ -37,8 +37,9 @@ module _ {A : Type 0} {rule : List A → Bool} {more : List A → A → Bool} (g
       let broken = sym (lowest_told g d l) ∙ lt-ltb (lowest rule l) (length l) (omega (arith, f.0, at)) in
       ap Some at ∙ ap (λ b. cond b None (Some (lowest rule l))) (sym (not-true (rule l) broken))
   broken_found slots {r = None} f tells =
-      let kept = ap rule (sym (take_all n l (omega arith))) ∙ kept_to tells (omega arith) n (omega arith) f in
-      ap (λ b. cond b None (Some (lowest rule l))) (sym kept)
+      let nowhere = breaks_nowhere g d l n (kept_to tells (omega arith) n (omega arith) f) slots (omega arith) in
+      let kept = sym (lowest_told g d l) ∙ le-ltb (lowest rule l) (length l) (omega (arith, nowhere, slots)) in
+      ap (λ b. cond b None (Some (lowest rule l))) (sym (not-false (rule l) kept))
 
 -- whether each slot below slot n passes
 module _ {A : Type 0} (t : A → Bool) (d : A) (l : List A) (gives : ℕ → Bool → Type 0) (n : ℕ) where

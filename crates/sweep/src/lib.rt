@@ -5,7 +5,8 @@ ghost use Rattle.std.specs.Prelude.{ℕ, ◌<◌};
 ghost use Rattle.sweep.specs.FirstPassing.{IsFirst};
 
 // The first of n slots that passes, if one does. No slot behind it is asked. Four slots are asked in a turn: whether there is a next turn costs
-// as much to ask as two slots.
+// as much to ask as two slots. Always put in place: called, it would be lent its test in memory.
+#[inline(always)]
 pub fn first<F: Fn(usize) -> bool>(n: usize, passes: F) -> Option<usize>
     requires { (i : ℕ) → i < n → F.pre passes i }
     ensures { IsFirst (F.post passes) n result }

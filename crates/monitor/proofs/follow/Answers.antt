@@ -1,7 +1,8 @@
-use mathlib.Core.Path.{refl}
+use mathlib.Core.Path.{refl, ap, ◌∙◌}
 use native.Mathlib.Omega.{arith}
 use borrow.Author.Rules.{rules}
-use Rattle.monitor.proofs.RunLaws.{left_all, left_less, left_none}
+use Rattle.octets.specs.Octets.{put}
+use Rattle.monitor.proofs.{RunLaws.{left_all, left_less, left_none}, PlainAnswers.{plain_bytes}}
 use Rattle.monitor.proofs.follow.Goals as goal
 
 pub loop-i-init : goal.loop-i-init
@@ -19,7 +20,8 @@ pub loop-i-preserved : goal.loop-i-preserved
 loop-i-preserved c =
     let one = c.one-a.ensures in
     let left = c.loop-i.invariant.2 in
-    (search rules, one.accepted, left_less _ _ _ _ _ _ _ left (omega arith) (search rules) _ _ _ one.stepped c.tell.ensures)
+    let same = plain_bytes _ _ c.loop-i.invariant.1 one.stepped in
+    (search rules, one.accepted, left_less _ _ _ _ _ _ _ left (omega arith) (search rules) _ _ _ one.stepped (c.tell.ensures ∙ ap (put _ _) same))
 
 pub shape_of-image : goal.shape_of-image
 shape_of-image c = c.loop-i.invariant.0

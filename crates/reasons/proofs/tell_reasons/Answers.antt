@@ -1,6 +1,6 @@
 use borrow.Author.Rules.{rules}
 use native.Mathlib.Omega.{arith}
-use Rattle.reasons.proofs.HolderLines.{rest_all, rest_none, rest_stops, rest_goes_on}
+use Rattle.reasons.proofs.HolderLines.{rest_all, rest_ended, rest_stops, rest_goes_on}
 use Rattle.reasons.proofs.tell_reasons.Goals as goal
 
 pub loop-i-init : goal.loop-i-init
@@ -26,4 +26,4 @@ pub shape_of-lines : goal.shape_of-lines
 shape_of-lines c = c.loop-i.invariant.room
 
 pub returns : goal.returns
-returns c = rest_none _ _ _ _ _ _ _ c.loop-i.invariant (omega arith)
+returns c = rest_ended _ _ _ _ _ _ _ c.loop-i.invariant (omega arith)
