@@ -15,6 +15,10 @@ use Rattle.std.proofs.lemmas.Option.{cond_some, none-some}
 use Rattle.chain.specs.SlotWords.{slot, rooted, linked, reach, verifiers, level_of}
 use Rattle.chain.proofs.WordsAny.{any_none, any_same, any_or, word_any, Going, goes_to, some_here}
 
+-- a test whether a is m and k the key, of which m is d
+pub asked : {b : Bool} (a k key : ℕ) {m d : ℕ} → b ≡ (eqb a m && eqb k key) → m ≡ d → b ≡ (eqb a d && eqb k key)
+asked a k key h q = h ∙ ap (λ m. eqb a m && eqb k key) q
+
 none : (b : Bool) → (b && false) ≡ false
 none true = refl
 none false = refl
