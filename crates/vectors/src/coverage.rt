@@ -1,5 +1,5 @@
 // What the cases covered: how often each kind of event got each code, and each domain and link count of the two kinds that tell a chain.
-ghost use Rattle.std.specs.Prelude.{◌<◌, ◌≤◌, length};
+ghost use Rattle.std.specs.Prelude.{◌<◌, ◌≤◌, ◌≡◌, cond, leb, length};
 
 use differences::{answer_of, kind_of};
 use records::Event;
@@ -33,7 +33,8 @@ fn count<const COLUMNS: usize>(table: &mut [[u64; COLUMNS]], row: usize, column:
 
 // The row of a kind: row 0 is that of every number that is no kind, which is counted like the others.
 fn row(kind: u8) -> usize
-    ensures { result < 17 }
+    ensures in_table { result < 17 }
+    ensures value { result ≡ cond (leb 17 kind) 0 kind }
 {
     if KINDS <= kind as usize {
         return 0;
